@@ -1,0 +1,4 @@
+pub mod Entries
+pub mod Lines
+pub mod Listing
+pub mod Reading

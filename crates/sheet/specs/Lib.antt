@@ -1,0 +1,5 @@
+pub mod Bits
+pub mod Bounds
+pub mod First
+pub mod Layout
+pub mod Opening
