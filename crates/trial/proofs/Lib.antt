@@ -1,2 +1,3 @@
-pub mod Answered
-pub mod Tallies
+pub mod Pieces
+pub mod Printing
+pub mod Sales

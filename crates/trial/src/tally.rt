@@ -1,8 +1,7 @@
 // How many lots are kept, dropped, and of an unknown letter.
 ghost use mathlib.Core.Path.{_≡_};
 ghost use Prim.Native.Nat.{_+_, _^_, _<_};
-ghost use lib.ListN.{length};
-ghost use Rattle.trial.specs.Reports.{dropped-one, kept-one, tally-of, unknown-one};
+ghost use Rattle.trial.specs.Reports.{dropped-one, kept-one, unknown-one};
 use automaton::fault::Fault;
 
 #[derive(Clone, Copy)]
@@ -14,7 +13,7 @@ pub struct Tally {
 
 impl Tally {
     // The tally with one answer more.
-    fn with(self, answer: Result<bool, Fault>) -> Tally
+    pub fn with(self, answer: Result<bool, Fault>) -> Tally
         requires { ⌜ self .kept + self .dropped + self .unknown + 1 < 2 ^ 64 ⌝ }
         ensures kept { λ r. ⌜ r .kept ≡ self .kept + kept-one answer ⌝ }
         ensures dropped { λ r. ⌜ r .dropped ≡ self .dropped + dropped-one answer ⌝ }
@@ -35,20 +34,4 @@ impl Tally {
             },
         }
     }
-}
-
-// The tally of a list of answers.
-pub fn count_answers(answers: &[Result<bool, Fault>]) -> Tally
-    ensures value { λ r. ⌜ r ≡ tally-of (now (answers .entry)) ⌝ }
-    ensures all { λ r. ⌜ r .kept + r .dropped + r .unknown ≡ length (now (answers .entry)) ⌝ }
-{
-    let mut tally = Tally {
-        kept: 0,
-        dropped: 0,
-        unknown: 0,
-    };
-    for answer in answers {
-        tally = tally.with(*answer);
-    }
-    tally
 }
