@@ -11,8 +11,8 @@ use Rattle.std.specs.declared.option.Option.the-variants.{Some, None}
 use Rattle.automaton.specs.declared.fault.Fault.{Fault}
 use Rattle.catalogue.specs.Entries.{LotAt, Refused, StuckAt, bad-line, longest, told}
 use Rattle.catalogue.specs.Lines.{LineOf, Lines, LotValue}
-use Rattle.catalogue.specs.Listing.{Ended, Listed, Reads, Runs}
-use Rattle.catalogue.proofs.Unique.{one-reading}
+use Rattle.catalogue.specs.Listing.{Ended, Listed, Reading, Reads, Runs}
+use Rattle.catalogue.proofs.Unique.{only-reading}
 
 lines-more : (t : List ℕ) (lots : List LotValue) (lot : LotValue) (l ds : List ℕ) → Lines t lots → LineOf lot l ds → Lines (t ++ l) (lots ++ lot ∷ [])
 lines-more t [] lot l ds e h = (l, ds, [], h, ap (λ (x : List ℕ). x ++ l) e ∙ sym (append-nil l), refl)
@@ -28,35 +28,34 @@ lines-next text at lots lot next ds h l =
     ∙ take-append-drop at (take next text) in
     subst (λ (x : List ℕ). Lines x (lots ++ lot ∷ [])) whole (lines-more (take at text) lots lot (take (next - at) (drop at text)) ds h (l .line))
 
+-- a reading of a text that is not too long is the promised one
+listed-reading : (text : List ℕ) (lots : List LotValue) (fault : Option Fault) → length text ≤ longest → Reading text lots fault → Listed text lots fault
+listed-reading text lots fault few reading = record {
+  read = λ _. reading;
+  only = λ _ others end other. only-reading text lots others fault end reading other;
+  long = λ l. absurd (omega arith);
+  whole = λ _ all lines. only-reading text lots all fault None reading (text, [], sym (append-nil text), lines, refl);
+}
+
 -- the end was reached
 pub listed-whole : (text : List ℕ) (at : ℕ) (lots : List LotValue) → Lines (take at text) lots → length text ≤ longest → at ≡ length text → Listed text lots None
 listed-whole text at lots h few e =
     let all : take at text ≡ text = take-all at text (omega arith) in
-    let lines : Lines text lots = subst (λ (x : List ℕ). Lines x lots) all h in
-    let split : text ≡ text ++ [] = sym (append-nil text) in
-    record {
-      read = λ _. (text, [], split, lines, refl);
-      long = λ l. absurd (omega arith);
-      whole = λ ls _ a. one-reading lots ls text text [] (length text) None split lines refl a;
-    }
+    listed-reading text lots None few (text, [], sym (append-nil text), subst (λ (x : List ℕ). Lines x lots) all h, refl)
 
 -- a line was refused
 pub listed-refused : (text : List ℕ) (at : ℕ) (lots : List LotValue) (f : Fault) → at ≤ length text → Lines (take at text) lots → (longest < length text → lots ≡ []) → Refused text at f → Listed text lots (Some f)
 listed-refused text at lots f within h none (inl r) = record {
   read = λ few. absurd (omega (arith, r .0));
+  only = λ few others end other. absurd (omega (arith, r .0));
   long = λ l. (none l, ap Some (r .1));
-  whole = λ ls few a. absurd (omega (arith, r .0));
+  whole = λ few all lines. absurd (omega (arith, r .0));
 }
 listed-refused text at lots f within h none (inr (i, r)) =
-    let split : text ≡ take at text ++ drop at text = sym (take-append-drop at text) in
     let n : length (take at text) ≡ at = length-take-le at text within in
     let ended : Ended (drop at text) (length (take at text)) (Some f) =
     (i, record { some = omega (arith, r .unended, length-drop at text); stuck = r .stuck; fault = r .fault ∙ ap (λ (k : ℕ). bad-line (k + i)) (sym n) }) in
-    record {
-      read = λ _. (take at text, drop at text, split, h, ended);
-      long = λ l. absurd (omega (arith, r .few));
-      whole = λ ls _ a. one-reading lots ls text (take at text) (drop at text) (length (take at text)) (Some f) split h ended a;
-    }
+    listed-reading text lots (Some f) (r .few) (take at text, drop at text, sym (take-append-drop at text), h, ended)
 
 -- whoever calls the reader to the end is handed the same
 reads-on : (text : List ℕ) (more : List LotValue) (fault : Option Fault) (at : ℕ) (done : List LotValue) → at ≤ length text → Lines (take at text) done → (longest < length text → done ≡ [])

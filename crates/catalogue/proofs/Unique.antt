@@ -6,14 +6,15 @@ use mathlib.Core.Path.{_≡_, refl, sym, ap, _∙_, subst}
 use Prim.Native.Nat.{ℕ, zero, suc, _+_, _-_, _<_, _≤_}
 use native.Mathlib.Omega.{arith}
 use lib.ListN.{length, take, drop}
-use Rattle.std.proofs.shelf.Lists.{length-append, nil-from-length, take-all, take-append-drop, take-append-le, take-at}
-use Rattle.std.proofs.shelf.Tests.{both-ways, cases-lt}
+use Rattle.std.proofs.shelf.Lists.{length-append, nil-from-length, take-all, take-append-drop, take-append-le, take-take}
+use Rattle.std.proofs.shelf.Tests.{both-ways, cases-lt, cases-order}
 use Rattle.std.specs.declared.option.Option.{Option}
 use Rattle.std.specs.declared.option.Option.the-variants.{Some, None}
 use Rattle.std.specs.shelf.Lists.{All}
 use Rattle.automaton.specs.declared.fault.Fault.{Fault}
 use Rattle.catalogue.specs.Lines.{Begins, IsLine, LineOf, Lines, LotValue, Number, Stuck, digit, letter, line, value}
-use Rattle.catalogue.specs.Listing.{Ended}
+use Rattle.catalogue.specs.Entries.{bad-line}
+use Rattle.catalogue.specs.Listing.{Ended, Reading}
 
 -- elements that pass a test, and then one that does not
 split-once : (f : ℕ → Bool) (a b : List ℕ) (x y : ℕ) (r s : List ℕ) → All (λ c. f c ≡ true) a → f x ≡ false → All (λ c. f c ≡ true) b → f y ≡ false → a ++ x ∷ r ≡ b ++ y ∷ s → (a ≡ b) × (r ≡ s)
@@ -77,23 +78,58 @@ never-stuck text l d m rest i e h s = go (cases-lt i (length l))
         let none : part ≡ [] = nil-from-length part (omega (arith, ap length (same .rest), length-append part more)) in
         s .unfinished d m (subst (λ (x : List ℕ). IsLine x d m) (sym (front ∙ ap (λ (x : List ℕ). l ++ x) none ∙ append-nil l)) h)
 
--- the lots of a well-formed text are what reading it to the end gives, and nothing ends the reading before
-pub one-reading : (lots all : List LotValue) (text done left : List ℕ) (n : ℕ) (fault : Option Fault) → text ≡ done ++ left → Lines done lots → Ended left n fault → Lines text all → (lots ≡ all) × (fault ≡ None)
-one-reading [] [] text done left n None e d f a = (refl, refl)
-one-reading [] [] text done left n (Some x) e d f a =
-    let t = ap length (sym a ∙ e ∙ ap (λ (k : List ℕ). k ++ left) d) in
-    absurd (omega (arith, f .1 .some, t))
-one-reading [] (lot ∷ all) text done left n None e d f (l, ds, rest, h, s, more) =
-    let t = ap length (sym s ∙ e ∙ ap (λ (k : List ℕ). k ++ left) d ∙ f) ∙ refl in
-    absurd (omega (arith, line-long l ds (lot .mark) (h .line), t, length-append l rest))
-one-reading [] (lot ∷ all) text done left n (Some x) e d f (l, ds, rest, h, s, more) =
-    absurd (never-stuck left l ds (lot .mark) rest (f .0) (sym (e ∙ ap (λ (k : List ℕ). k ++ left) d) ∙ s) (h .line) (f .1 .stuck))
-one-reading (lot ∷ lots) [] text done left n fault e (l, ds, rest, h, s, more) f a =
-    let t = ap length (sym a ∙ e ∙ ap (λ (k : List ℕ). k ++ left) s) in
-    absurd (omega (arith, line-long l ds (lot .mark) (h .line), t, length-append (l ++ rest) left, length-append l rest))
-one-reading (lot ∷ lots) (lot′ ∷ all) text done left n fault e (l, ds, rest, h, s, more) f (l′, ds′, rest′, h′, s′, more′) =
-    let t : l ++ (rest ++ left) ≡ l′ ++ rest′ = sym (append-assoc l rest left) ∙ ap (λ (k : List ℕ). k ++ left) (sym s) ∙ sym e ∙ s′ in
-    let same = same-line l l′ ds ds′ (lot .mark) (lot′ .mark) (rest ++ left) rest′ (h .line) (h′ .line) t in
-    let on = one-reading lots all rest′ rest left n fault (sym (same .rest)) more f more′ in
+-- what begins a line has a shorter beginning, so a text is stuck at one place
+begun-less : (text : List ℕ) (j k : ℕ) → k ≤ j → Begins (take j text) → Begins (take k text)
+begun-less text j k h (more, d, m, l) =
+    let t : take k text ++ (drop k (take j text) ++ more) ≡ take j text ++ more =
+    sym (append-assoc (take k text) (drop k (take j text)) more)
+    ∙ ap (λ (x : List ℕ). x ++ more) (ap (λ (x : List ℕ). x ++ drop k (take j text)) (sym (take-take k j text h)) ∙ take-append-drop k (take j text)) in
+    (drop k (take j text) ++ more, d, m, subst (λ (x : List ℕ). IsLine x d m) (sym t) l)
+
+stuck-once : (text : List ℕ) (i j : ℕ) → Stuck text i → Stuck text j → i ≡ j
+stuck-once text i j s t = go (cases-order i j)
+  where
+    go : (i ≡ j) ⊎ ((i < j) ⊎ (j < i)) → i ≡ j
+    go (inl e) = e
+    go (inr (inl l)) = absurd (s .bad (omega (arith, t .within)) (begun-less text j (suc i) (omega arith) (t .begun)))
+    go (inr (inr l)) = absurd (t .bad (omega (arith, s .within)) (begun-less text i (suc j) (omega arith) (s .begun)))
+
+-- what is left decides how the reading ends
+same-end : (left left′ : List ℕ) (n n′ : ℕ) (fault fault′ : Option Fault) → left ≡ left′ → n + length left ≡ n′ + length left′ → Ended left n fault → Ended left′ n′ fault′ → fault ≡ fault′
+same-end left left′ n n′ None None e s f g = refl
+same-end left left′ n n′ None (Some x) e s f (i, g) = let t = ap length (sym e ∙ f) in absurd (omega (arith, g .some, t))
+same-end left left′ n n′ (Some x) None e s (i, f) g = let t = ap length (e ∙ g) in absurd (omega (arith, f .some, t))
+same-end left left′ n n′ (Some x) (Some y) e s (i, f) (j, g) =
+    let k : i ≡ j = stuck-once left i j (f .stuck) (subst (λ (t : List ℕ). Stuck t j) (sym e) (g .stuck)) in
+    let p : n + i ≡ n′ + j = omega (arith, ap length e) in
+    ap Some (f .fault ∙ ap bad-line p ∙ sym (g .fault))
+
+-- a line does not begin what ends the reading
+no-line-left : (left l d m rest : List ℕ) (n : ℕ) (fault : Option Fault) → Ended left n fault → left ≡ l ++ rest → IsLine l d m → ⊥
+no-line-left left l d m rest n None f e h = let t = ap length (sym e ∙ f) in omega (arith, line-long l d m h, t, length-append l rest)
+no-line-left left l d m rest n (Some x) (i, f) e h = never-stuck left l d m rest i e h (f .stuck)
+
+-- a text has one reading
+pub one-reading : (lots others : List LotValue) (done left done′ left′ : List ℕ) (n n′ : ℕ) (fault end : Option Fault) → done ++ left ≡ done′ ++ left′ → n + length left ≡ n′ + length left′
+    → Lines done lots → Ended left n fault → Lines done′ others → Ended left′ n′ end → (lots ≡ others) × (fault ≡ end)
+one-reading [] [] done left done′ left′ n n′ fault end e s d f d′ f′ =
+    let same : left ≡ left′ = ap (λ (x : List ℕ). x ++ left) (sym d) ∙ e ∙ ap (λ (x : List ℕ). x ++ left′) d′ in
+    (refl, same-end left left′ n n′ fault end same s f f′)
+one-reading [] (lot ∷ others) done left done′ left′ n n′ fault end e s d f (l, ds, rest, h, t, more) f′ =
+    let same : left ≡ l ++ (rest ++ left′) = ap (λ (x : List ℕ). x ++ left) (sym d) ∙ e ∙ ap (λ (x : List ℕ). x ++ left′) t ∙ append-assoc l rest left′ in
+    absurd (no-line-left left l ds (lot .mark) (rest ++ left′) n fault f same (h .line))
+one-reading (lot ∷ lots) [] done left done′ left′ n n′ fault end e s (l, ds, rest, h, t, more) f d′ f′ =
+    let same : left′ ≡ l ++ (rest ++ left) = ap (λ (x : List ℕ). x ++ left′) (sym d′) ∙ sym e ∙ ap (λ (x : List ℕ). x ++ left) t ∙ append-assoc l rest left in
+    absurd (no-line-left left′ l ds (lot .mark) (rest ++ left) n′ end f′ same (h .line))
+one-reading (lot ∷ lots) (lot′ ∷ others) done left done′ left′ n n′ fault end e s (l, ds, rest, h, t, more) f (l′, ds′, rest′, h′, t′, more′) f′ =
+    let u : l ++ (rest ++ left) ≡ l′ ++ (rest′ ++ left′) =
+    sym (append-assoc l rest left) ∙ ap (λ (k : List ℕ). k ++ left) (sym t) ∙ e ∙ ap (λ (k : List ℕ). k ++ left′) t′ ∙ append-assoc l′ rest′ left′ in
+    let same = same-line l l′ ds ds′ (lot .mark) (lot′ .mark) (rest ++ left) (rest′ ++ left′) (h .line) (h′ .line) u in
+    let on = one-reading lots others rest left rest′ left′ n n′ fault end (same .rest) s more f more′ f′ in
     let number : lot .number ≡ lot′ .number = h .number ∙ ap value (same .digits) ∙ sym (h′ .number) in
-    (same-lots lot lot′ lots all number (same .letters) (on .0), on .1)
+    (same-lots lot lot′ lots others number (same .letters) (on .0), on .1)
+
+pub only-reading : (text : List ℕ) (lots others : List LotValue) (fault end : Option Fault) → Reading text lots fault → Reading text others end → (lots ≡ others) × (fault ≡ end)
+only-reading text lots others fault end (done, left, e, d, f) (done′, left′, e′, d′, f′) =
+    let s : length done + length left ≡ length done′ + length left′ = sym (length-append done left) ∙ ap length (sym e ∙ e′) ∙ length-append done′ left′ in
+    one-reading lots others done left done′ left′ (length done) (length done′) fault end (sym e ∙ e′) s d f d′ f′

@@ -2,9 +2,10 @@
 --   values    the lots in a list, by their numbers and the bytes of their marks
 --   Ended     how the reading ends before what is left of a text, after so many bytes: with no refusal where nothing is left, and
 --             else with a refusal at the first byte that cannot go on
---   Listed    the promise of reading to the end. `read`: the text is the lines of the lots, and then what ends the reading. `long`: a
---             text that is too long has no lots and is refused. `whole`: of a well-formed text come exactly its lots, in order, and
---             no refusal.
+--   Reading   a text is the lines of these lots, and then what ends the reading so
+--   Listed    the promise of reading to the end. `read`: it is a reading of the text. `only`: the text has no other one. `long`: a text
+--             that is too long has no lots and is refused. `whole`: of a well-formed text come exactly its lots, in order, and no
+--             refusal.
 --   Reads     calls of the reader from a place hand out these lots, one after another, and then the end or a refusal
 --   Runs      the law of the reader: whoever calls it to the end is handed what reading to the end promises
 use mathlib.Core.List.{List, [], _∷_, _++_, map}
@@ -32,10 +33,14 @@ abbrev pub Ended : List ℕ → ℕ → Option Fault → Type 0
 Ended left done None = left ≡ []
 Ended left done (Some f) = (i : ℕ) × EndsAt left done f i
 
+abbrev pub Reading : List ℕ → List LotValue → Option Fault → Type 0
+Reading text lots fault = (done left : List ℕ) × (text ≡ done ++ left) × Lines done lots × Ended left (length done) fault
+
 pub record Listed (text : List ℕ) (lots : List LotValue) (fault : Option Fault) : Type 0 where
-  pub read : length text ≤ longest → (done left : List ℕ) × (text ≡ done ++ left) × Lines done lots × Ended left (length done) fault
+  pub read : length text ≤ longest → Reading text lots fault
+  pub only : length text ≤ longest → (others : List LotValue) (end : Option Fault) → Reading text others end → (lots ≡ others) × (fault ≡ end)
   pub long : longest < length text → (lots ≡ []) × (fault ≡ Some (bad-line longest))
-  pub whole : (all : List LotValue) → length text ≤ longest → Lines text all → (lots ≡ all) × (fault ≡ None)
+  pub whole : length text ≤ longest → (all : List LotValue) → Lines text all → (lots ≡ all) × (fault ≡ None)
 
 abbrev pub Reads : List ℕ → ℕ → List LotValue → Option Fault → Type 0
 Reads text at [] None = (next : ℕ) × Entered text at (Ok End) next
