@@ -1,6 +1,6 @@
 -- What opening a sheet promises, from its answer and from what is held.
 use Prim.Native.Nat.{ℕ, _+_, _-_, _*_, _<_, _≤_}
-use mathlib.Core.Path.{_≡_, sym, _∙_, ap, subst}
+use mathlib.Core.Path.{_≡_, refl, sym, _∙_, ap, subst}
 use mathlib.Core.List.{List}
 use mathlib.Core.Logic.{_↔_}
 use native.Mathlib.Omega.{arith}
@@ -61,13 +61,14 @@ module _ (bs : List ℕ) where
   first-stray p a e =
       some-stray bs p a (strays (ltb (length bs) 2) (eqb (length bs) (sheet-bytes bs)) (stray-fault bs) (eqb (padding bs) 0) p a e)
 
-pub opened : (sheet old new : List ℕ) (r : Result (Unit {0}) Fault) → Taken sheet old new r → Opened sheet old new r
+pub opened : (sheet old new : List ℕ) (r : Result (Unit {0}) Fault) → Taken sheet old new r → Opened sheet old new (tabled new) r
 opened sheet old new r t =
     record {
       answer = t .answer;
       held = t .held;
       accepted = (λ k. well-formed sheet (none k), λ k. t .answer ∙ ap answered (faultless sheet k));
       stray = λ p a k. first-stray sheet p a (answered-err (fault-of sheet) (strayed p a) (sym (t .answer) ∙ k));
+      means = refl;
       keeps = λ k w. subst (λ (l : List ℕ). Keeps (tabled l) w ↔ Accepts (drawn sheet) w) (sym (taken k)) (keeps-drawn sheet (closed sheet (none k)) w);
     }
   where

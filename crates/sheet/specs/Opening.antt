@@ -11,9 +11,9 @@
 --   answered        the answer to a fault, or to none
 --   held-after      the bytes held after it: those of the sheet, or with a fault the old ones
 --   Stray           a next state that is not there, before which every next state is there
---   Opened          the promise of opening: answer and bytes are the defined ones; it succeeds exactly on a well-formed sheet; a
---                   stray next state that is named is the first one; and the words that are then kept are those that the
---                   diagram of the sheet accepts
+--   Opened          the promise of opening, with the meaning of the rule that the table then is: answer and bytes are the defined
+--                   ones; it succeeds exactly on a well-formed sheet; a stray next state that is named is the first one; the rule is
+--                   that of the bytes held; and the words that it then keeps are those that the diagram of the sheet accepts
 --   NotCopied       a sheet without a fault was not copied for want of memory, and the old bytes are held
 --   Copied          the promise of opening a copy: opened, or not copied
 --   Taken           answer and bytes are the defined ones
@@ -32,6 +32,7 @@ use Rattle.std.specs.Options.{valueOr}
 use Rattle.automaton.specs.declared.fault.Fault.{Fault}
 use Rattle.automaton.specs.declared.kind.FaultKind.the-variants.{WrongLength, TargetOutOfRange, PaddingSet, OutOfMemory}
 use Rattle.automaton.specs.declared.layer.Layer.the-variants.{Sheet}
+use Rattle.automaton.specs.Automata.{Automaton}
 use Rattle.automaton.specs.Diagrams.{Accepts}
 use Rattle.automaton.specs.Faults.{refusal}
 use Rattle.automaton.specs.Languages.{Keeps}
@@ -81,20 +82,21 @@ pub record Stray (bs : List ℕ) (p a : ℕ) : Type 0 where
   pub out : state-count bs ≤ next-in bs p a
   pub earlier : (q b : ℕ) → q < state-count bs → b < letter-count bs → (q < p) ⊎ ((q ≡ p) × (b < a)) → next-in bs q b < state-count bs
 
-pub record Opened (sheet old new : List ℕ) (r : Result (Unit {0}) Fault) : Type 0 where
+pub record Opened (sheet old new : List ℕ) (rule : Automaton) (r : Result (Unit {0}) Fault) : Type 0 where
   pub answer : r ≡ answered (fault-of sheet)
   pub held : new ≡ held-after (fault-of sheet) old sheet
   pub accepted : (r ≡ Ok tt) ↔ WellFormed sheet
   pub stray : (p a : ℕ) → r ≡ Err (strayed p a) → Stray sheet p a
-  pub keeps : r ≡ Ok tt → (w : List ℕ) → Keeps (tabled new) w ↔ Accepts (drawn sheet) w
+  pub means : rule ≡ tabled new
+  pub keeps : r ≡ Ok tt → (w : List ℕ) → Keeps rule w ↔ Accepts (drawn sheet) w
 
 pub record NotCopied (sheet old new : List ℕ) (r : Result (Unit {0}) Fault) : Type 0 where
   pub answer : r ≡ Err out-of-memory
   pub faultless : fault-of sheet ≡ None
   pub held : new ≡ old
 
-abbrev pub Copied : List ℕ → List ℕ → List ℕ → Result (Unit {0}) Fault → Type 0
-Copied sheet old new r = Opened sheet old new r ⊎ NotCopied sheet old new r
+abbrev pub Copied : List ℕ → List ℕ → List ℕ → Automaton → Result (Unit {0}) Fault → Type 0
+Copied sheet old new rule r = Opened sheet old new rule r ⊎ (NotCopied sheet old new r × (rule ≡ tabled new))
 
 pub record Taken (sheet old new : List ℕ) (r : Result (Unit {0}) Fault) : Type 0 where
   pub answer : r ≡ answered (fault-of sheet)

@@ -2,6 +2,7 @@
 pub mod bits;
 mod checks;
 mod layout;
+mod opening;
 pub mod table;
 #[cfg(test)]
 mod tests;

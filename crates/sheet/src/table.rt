@@ -1,23 +1,18 @@
 // A rule that is read off the bits of a table sheet.
 ghost use mathlib.Core.List.{[]};
-ghost use mathlib.Core.Logic.{_⊎_};
 ghost use mathlib.Core.Path.{_≡_};
 ghost use Rattle.std.specs.Of.Vec.{vec-items};
 ghost use Rattle.std.specs.declared.option.Option.the-variants.{None};
 ghost use Rattle.automaton.specs.Automata.{blank as blank-automaton};
 ghost use Rattle.sheet.specs.Bounds.{tabled-lawful};
 ghost use Rattle.sheet.specs.Layout.{Closed, tabled};
-ghost use Rattle.sheet.specs.Opening.{Copied, fault-of, NotCopied, Opened, Taken};
-use crate::checks::first_fault;
+ghost use Rattle.sheet.specs.Opening.{fault-of};
 use crate::layout::header;
 use crate::layout::kept_bit;
 use crate::layout::next_state;
 use automaton::fault::Fault;
-use automaton::kind::FaultKind;
-use automaton::layer::Layer;
 use automaton::rule::Rule;
 use automaton::size::Size;
-use std::alloc::Global;
 
 // The bytes of the sheet that was opened last. With none, every field is 0: one state, which is dropped, and one letter.
 #[derive(Drop)]
@@ -27,16 +22,8 @@ pub struct Table {
 }
 
 impl Table {
-    // The rule that keeps nothing.
-    pub fn blank(heap: Global) -> Table
-        ensures bytes { λ r. ⌜ vec-items (r .bytes) ≡ [] ⌝ }
-        ensures meaning { λ r. ⌜ tabled (vec-items (r .bytes)) ≡ blank-automaton ⌝ }
-    {
-        Table::empty(Vec::new(heap))
-    }
-
     // The table that holds no bytes.
-    fn empty(bytes: Vec<u8>) -> Table
+    pub(crate) fn empty(bytes: Vec<u8>) -> Table
         requires { ⌜ vec-items bytes ≡ [] ⌝ }
         ensures bytes { λ r. ⌜ vec-items (r .bytes) ≡ [] ⌝ }
         ensures meaning { λ r. ⌜ tabled (vec-items (r .bytes)) ≡ blank-automaton ⌝ }
@@ -44,43 +31,8 @@ impl Table {
         Table { bytes }
     }
 
-    // Replaces the held rule by that of a sheet, which is handed over. A refusal leaves the held rule.
-    pub fn replace(&mut self, sheet: Vec<u8>) -> Result<(), Fault>
-        ensures { λ r. ⌜ Opened (vec-items sheet) (vec-items (now (self .entry) .bytes)) (vec-items (now (self .exit) .bytes)) r ⌝ }
-    {
-        self.take(sheet)
-    }
-
-    // Replaces the held rule by that of a sheet, which is copied. A refusal leaves the held rule.
-    pub fn open(&mut self, heap: Global, sheet: &[u8]) -> Result<(), Fault>
-        ensures { λ r. ⌜ Copied (now (sheet .entry)) (vec-items (now (self .entry) .bytes)) (vec-items (now (self .exit) .bytes)) r ⌝ }
-    {
-        self.take_copy(heap, sheet)
-    }
-
-    // Holds a sheet, or refuses its first fault.
-    fn take(&mut self, sheet: Vec<u8>) -> Result<(), Fault>
-        ensures { λ r. ⌜ Taken (vec-items sheet) (vec-items (now (self .entry) .bytes)) (vec-items (now (self .exit) .bytes)) r ⌝ }
-    {
-        first_fault(&sheet)?;
-        self.hold(sheet);
-        Ok(())
-    }
-
-    // Holds a copy of a sheet, or refuses its first fault, or refuses for want of memory.
-    fn take_copy(&mut self, heap: Global, sheet: &[u8]) -> Result<(), Fault>
-        ensures { λ r. ⌜ Taken (now (sheet .entry)) (vec-items (now (self .entry) .bytes)) (vec-items (now (self .exit) .bytes)) r ⊎ NotCopied (now (sheet .entry)) (vec-items (now (self .entry) .bytes)) (vec-items (now (self .exit) .bytes)) r ⌝ }
-    {
-        first_fault(sheet)?;
-        let Ok(copy) = Vec::from_slice(heap, sheet) else {
-            return Err(Fault::new(FaultKind::OutOfMemory, Layer::Sheet, 0, 0));
-        };
-        self.hold(copy);
-        Ok(())
-    }
-
     // Holds a sheet that has no fault.
-    fn hold(&mut self, sheet: Vec<u8>)
+    pub(crate) fn hold(&mut self, sheet: Vec<u8>)
         requires { ⌜ fault-of (vec-items sheet) ≡ None ⌝ }
         ensures { λ _. ⌜ vec-items (now (self .exit) .bytes) ≡ vec-items sheet ⌝ }
     {

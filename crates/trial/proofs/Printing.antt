@@ -8,6 +8,7 @@ use Rattle.std.specs.declared.option.Option.the-variants.{Some, None}
 use Rattle.std.specs.declared.result.Result.{Result}
 use Rattle.std.specs.declared.result.Result.the-variants.{Ok, Err}
 use Rattle.automaton.specs.declared.fault.Fault.{Fault}
+use Rattle.automaton.specs.Automata.{Automaton}
 use Rattle.sheet.specs.Layout.{tabled}
 use Rattle.sheet.specs.Opening.{Opened, answered, fault-of, held-after}
 use Rattle.trial.specs.Reports.{Printed, PrintedBy, Sale, refused-text}
@@ -20,15 +21,15 @@ faultless : (o : Option Fault) → answered o ≡ Ok tt → o ≡ None
 faultless None e = refl
 faultless (Some g) e = let z : _≡_ {A = ℕ} 0 1 = cc in absurd (omega arith)
 
-module _ (sheet text old new before out : List ℕ) (r : Result (Unit {0}) Fault) (opened : Opened sheet old new r) (empty : before ≡ []) where
+module _ (sheet text old new before out : List ℕ) (rule : Automaton) (r : Result (Unit {0}) Fault) (opened : Opened sheet old new rule r) (empty : before ≡ []) where
   pub refused-printed : (f : Fault) → r ≡ Err f → out ≡ before ++ refused-text f → Printed sheet text out
   refused-printed f e o =
       let is : fault-of sheet ≡ Some f = faulty (fault-of sheet) f (sym (opened .answer) ∙ e) in
       subst (λ (x : Option Fault). PrintedBy x (tabled sheet) text out) (sym is) (o ∙ ap (λ (x : List ℕ). x ++ refused-text f) empty)
 
-  pub sold-printed : r ≡ Ok tt → Sale (tabled new) text before out → Printed sheet text out
+  pub sold-printed : r ≡ Ok tt → Sale rule text before out → Printed sheet text out
   sold-printed e s =
       let is : fault-of sheet ≡ None = faultless (fault-of sheet) (sym (opened .answer) ∙ e) in
-      let held : new ≡ sheet = opened .held ∙ ap (λ (x : Option Fault). held-after x old sheet) is in
+      let held : rule ≡ tabled sheet = opened .means ∙ ap tabled (opened .held ∙ ap (λ (x : Option Fault). held-after x old sheet) is) in
       subst (λ (x : Option Fault). PrintedBy x (tabled sheet) text out) (sym is)
-      (subst (λ (x : List ℕ). Sale (tabled sheet) text x out) empty (subst (λ (x : List ℕ). Sale (tabled x) text before out) held s))
+      (subst (λ (x : List ℕ). Sale (tabled sheet) text x out) empty (subst (λ (x : Automaton). Sale x text before out) held s))
