@@ -6,7 +6,7 @@
 --   Unknown     the first letter that is not there stands at this position
 --   Judged      the promise of judging a word: the answer is the defined one, yes exactly if the rule keeps the word, no exactly
 --               if it drops it, and a refusal exactly at the first letter that is not there; and the words kept are those that the
---               textbook's automaton accepts
+--               textbook's automaton accepts, which is a theorem about the rule and speaks of no answer
 use mathlib.Core.Bool.{Bool, true, false}
 use mathlib.Core.List.{List, _++_}
 use mathlib.Core.Logic.{_↔_}

@@ -3,7 +3,8 @@
 --   walk           the state where the walk of a word ends, by taking the next state for each letter in turn
 --   walk-answer    what walking answers: a state that is not there is refused, and then the first letter that is not there,
 --                  by its position
---   resumed        the answer of a walk that was begun after so many letters
+--   resumed        the answer of a walk that was begun, at a state that is there, after so many letters: only a letter can be
+--                  refused, and its position is counted from the beginning
 --   text-letter    the letter that a byte of a text stands for: a to p are 0 to 15, and any other byte is 16, which no rule has
 --   spelled        the word that bytes spell, as numbers or as text
 use mathlib.Core.Bool.{Bool, true, false, cond, _&&_}

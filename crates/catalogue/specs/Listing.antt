@@ -7,7 +7,8 @@
 --             that is too long has no lots and is refused. `whole`: of a well-formed text come exactly its lots, in order, and no
 --             refusal.
 --   Reads     calls of the reader from a place hand out these lots, one after another, and then the end or a refusal
---   Runs      the law of the reader: whoever calls it to the end is handed what reading to the end promises
+--   Runs      the law of the reader: whoever calls it to the end is handed what reading to the end promises. It speaks of the text
+--             alone, and of no answer of the call that promises it
 use mathlib.Core.List.{List, [], _∷_, _++_, map}
 use mathlib.Core.Path.{_≡_}
 use Prim.Native.Nat.{ℕ, _+_, _<_, _≤_}

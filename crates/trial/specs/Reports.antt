@@ -1,9 +1,9 @@
 -- What a trial sale prints, as bytes.
 --   answer-to     whether an automaton keeps a lot's mark
---   outcome       what a lot's line says of an answer: kept, dropped, or the position of the first letter that the rule has not
+--   outcome       what a lot's line says of an answer: kept, dropped, or the place of a refusal, which judging a mark gives as the
+--                 position of the first letter that the rule has not
 --   lot-text      the line of a lot, and lots-text the lines of some lots
---   Tally         how many lots are kept, dropped, and of an unknown letter
---   tally-of      the tally of some lots
+--   tally-of      how many of some lots are kept, dropped, and of an unknown letter
 --   sum-text      the last line
 --   refused-text  the line of a refused sheet
 --   ended-text    the line of the refusal that ended the list, which names its place; nothing if there was none
