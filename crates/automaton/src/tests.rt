@@ -1,4 +1,8 @@
-// Examples: the blank rule, by itself and by reference, and refusals.
+// Examples: the blank rule, by itself and by reference, and refusals. The two functions with contracts tie what `Blank` and a
+// reference mean, as rules, to the blank automaton and to the rule that is lent.
+ghost use Rattle.automaton.specs.Automata.{blank as blank-automaton};
+ghost use Rattle.automaton.specs.Languages.{Judged};
+ghost use Rattle.automaton.specs.Meanings.{meaning};
 use crate::blank::Blank;
 use crate::blank::BlankRule;
 use crate::fault::Fault;
@@ -15,6 +19,20 @@ use crate::size::SizeDebug;
 use crate::size::SizePartialEq;
 use crate::walk::*;
 use std::test::*;
+
+// Whether the blank rule keeps a word.
+fn keeps_blank(word: &[u8]) -> Result<bool, Fault>
+    ensures { λ r. ⌜ Judged blank-automaton (now (word .entry)) r ⌝ }
+{
+    keeps(&Blank, word)
+}
+
+// Whether a lent rule keeps a word: what the rule itself answers.
+fn keeps_lent<R: Rule>(rule: &R, word: &[u8]) -> Result<bool, Fault>
+    ensures { λ r. ⌜ Judged (meaning R·Rule (now (rule .entry))) (now (word .entry)) r ⌝ }
+{
+    keeps(&rule, word)
+}
 
 #[test]
 fn blank_answers() -> Result<(), Fail> {
@@ -41,8 +59,8 @@ fn words_are_walked() -> Result<(), Fail> {
     check_eq(walk_text(&Blank, 0, b"aaa"), Ok(0))?;
     check_eq(walk_text(&Blank, 0, b"ab"), Err(Fault::no_letter(1)))?;
     check_eq(walk_text(&Blank, 0, b"A"), Err(Fault::no_letter(0)))?;
-    check_eq(keeps(&Blank, &[0]), Ok(false))?;
-    check_eq(keeps(&&Blank, &[0, 97]), Err(Fault::no_letter(1)))?;
+    check_eq(keeps_blank(&[0]), Ok(false))?;
+    check_eq(keeps_lent(&Blank, &[0, 97]), Err(Fault::no_letter(1)))?;
     check_eq(keeps_text(&Blank, b""), Ok(false))?;
     check_eq(keeps_text(&&Blank, b"aaq"), Err(Fault::no_letter(2)))
 }
