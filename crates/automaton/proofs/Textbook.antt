@@ -1,10 +1,10 @@
 -- Walking finds the textbook's run, so a rule keeps exactly the words that its diagram accepts.
-use Rattle.std.proofs.Common.{◌≡◌, ℕ, zero, suc, ◌+◌, ◌<◌, ◌≤◌, Bool, true, false, cond, eqb, ltb, ◌↔◌, List, [], ◌∷◌, ◌++◌, length, get_or, Ok, Err, Result, sym, refl, ap, ◌∙◌, subst, arith}
+use Rattle.std.proofs.Common.{◌≡◌, ℕ, zero, suc, ◌+◌, ◌<◌, Bool, true, false, ltb, ◌↔◌, List, [], ◌∷◌, ◌++◌, length, get_or, Ok, Err, Result, sym, refl, ap, ◌∙◌, subst, arith}
 use Rattle.std.proofs.lemmas.Bool.{both_ways, cond-false, cond-true, eq-eqb, eqb-true, lt-ltb, ltb-true}
 use Rattle.automaton.specs.declared.fault.Fault.{Fault}
 use Rattle.automaton.specs.Answers.{kept_answer, no_letter, no_state}
 use Rattle.automaton.specs.Automata.{Automaton, Lawful}
-use Rattle.automaton.specs.Diagrams.{Accepts, Diagram, Leads, Run, diagram}
+use Rattle.automaton.specs.Diagrams.{Accepts, Diagram, Leads, diagram}
 use Rattle.automaton.specs.Languages.{Drops, Judged, Keeps, Unknown, Walked, keeps_answer}
 use Rattle.automaton.specs.Faults.{and_then}
 use Rattle.automaton.specs.Words.{Over, resumed, walk, walk_answer, walk_from}

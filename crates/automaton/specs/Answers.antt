@@ -3,7 +3,7 @@
 --   size_answer           the number of states and of letters
 --   kept_answer           whether a state is kept
 --   next_answer           the next state; the state is checked before the letter
-use Rattle.std.specs.Prelude.{ℕ, Bool, true, false, cond, Ok, Err, Result, nat_lt}
+use Rattle.std.specs.Prelude.{ℕ, Bool, cond, Ok, Err, Result, nat_lt}
 use Rattle.automaton.specs.declared.fault.Fault.{Fault}
 use Rattle.automaton.specs.declared.kind.FaultKind.TheVariants.{NoSuchState, NoSuchLetter}
 use Rattle.automaton.specs.declared.layer.Layer.TheVariants.{Rule}

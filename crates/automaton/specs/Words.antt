@@ -7,7 +7,7 @@
 --                  refused, and its position is counted from the beginning
 --   text_letter    the letter that a byte of a text stands for: a to p are 0 to 15, and any other byte is 16, which no rule has
 --   spelled        the word that bytes spell, as numbers or as text
-use Rattle.std.specs.Prelude.{ℕ, ◌+◌, ◌-◌, ◌<◌, Bool, true, false, cond, ◌&&◌, List, [], ◌∷◌, map, Ok, Err, Result, nat_le, nat_lt}
+use Rattle.std.specs.Prelude.{ℕ, ◌+◌, ◌-◌, ◌<◌, cond, ◌&&◌, List, [], ◌∷◌, map, Ok, Err, Result, nat_le, nat_lt}
 use Rattle.std.specs.List.{AllByRecursion}
 use Rattle.automaton.specs.declared.fault.Fault.{Fault}
 use Rattle.automaton.specs.declared.spelling.Spelling.{Spelling}

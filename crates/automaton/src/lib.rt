@@ -1,4 +1,6 @@
 // Rules: complete deterministic automata behind a trait, the walk of a word, and why a call is refused.
+#![tactic(auto)]
+
 pub mod blank;
 pub mod fault;
 pub mod kind;

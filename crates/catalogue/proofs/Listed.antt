@@ -1,8 +1,8 @@
 -- The lines that were read so far, and what reading to the end gives.
-use Rattle.std.proofs.Common.{◌≡◌, ℕ, ◌+◌, ◌-◌, ◌<◌, ◌≤◌, ◌⊎◌, List, [], ◌∷◌, ◌++◌, length, take, drop, Some, None, Option, sym, refl, ap, ◌∙◌, subst, inl, inr, append_assoc, append-nil, arith}
+use Rattle.std.proofs.Common.{◌≡◌, ℕ, ◌+◌, ◌-◌, ◌<◌, ◌≤◌, List, [], ◌∷◌, ◌++◌, length, take, drop, Some, None, Option, sym, refl, ap, ◌∙◌, subst, inl, inr, append_assoc, append-nil, arith}
 use Rattle.std.proofs.lemmas.List.{drop-take, length-drop, length-take-le, take_all, take-append-drop, take-take}
 use Rattle.automaton.specs.declared.fault.Fault.{Fault}
-use Rattle.catalogue.specs.Entries.{LotAt, Refused, StuckAt, bad_line, longest, told}
+use Rattle.catalogue.specs.Entries.{LotAt, Refused, bad_line, longest, told}
 use Rattle.catalogue.specs.Lines.{LineOf, Lines, LotValue}
 use Rattle.catalogue.specs.Listing.{Ended, Listed, Reading, Reads, Runs}
 use Rattle.catalogue.proofs.Unique.{only_reading}

@@ -1,8 +1,7 @@
 -- What follows the opening: digits, a space, letters and byte 10, or the place where it is stuck.
-use Rattle.std.proofs.Common.{◌≡◌, ℕ, zero, suc, ◌+◌, ◌-◌, ◌<◌, ◌≤◌, Bool, true, false, cond, not, ◌&&◌, eqb, ltb, ◌⊎◌, List, [], ◌∷◌, ◌++◌, length, get_or, take, drop, sym, refl, ap, ◌∙◌, subst, inl, inr, append_assoc, add-one, arith, lit≤, take-suc}
+use Rattle.std.proofs.Common.{◌≡◌, ℕ, zero, suc, ◌+◌, ◌<◌, ◌≤◌, Bool, true, false, ◌&&◌, ltb, ◌⊎◌, List, [], ◌∷◌, ◌++◌, length, get_or, take, drop, sym, refl, ap, ◌∙◌, subst, inl, inr, append_assoc, arith, take-suc}
 use Rattle.std.proofs.lemmas.List.{drop_more, get_or-drop, get_or-take, length-append, length-drop, length-take-le, nil_from_length, take-append-drop, take_at}
 use Rattle.std.proofs.lemmas.Bool.{and_right, cases_lt, le-ltb, ne_eqb}
-use Rattle.std.proofs.lemmas.Bool.Decides.{nat_tests}
 use Rattle.std.specs.List.{AllByRecursion}
 use Rattle.catalogue.specs.declared.line.Class.TheVariants.{Digit, Letter}
 use Rattle.catalogue.specs.Lines.{Begins, IsLine, Mark, Number, Stuck, digit, letter, line, opened}

@@ -1,7 +1,7 @@
 -- A text that leaves the opening LOT and a space is stuck there.
-use Rattle.std.proofs.Common.{◌≡◌, ℕ, zero, suc, ◌+◌, ◌-◌, ◌<◌, ◌≤◌, true, List, [], ◌∷◌, ◌++◌, length, get_or, take, drop, sym, refl, ap, ◌∙◌, arith, lit≤}
+use Rattle.std.proofs.Common.{◌≡◌, ℕ, zero, suc, ◌-◌, ◌<◌, ◌≤◌, List, [], ◌∷◌, ◌++◌, length, get_or, take, drop, sym, refl, ap, ◌∙◌, arith, lit≤}
 use Rattle.std.proofs.lemmas.List.{get_or_append_left, get_or-take, length-take-le, take_rest}
-use Rattle.catalogue.specs.Lines.{Begins, IsLine, Mark, Number, Stuck, line, opened}
+use Rattle.catalogue.specs.Lines.{Begins, Mark, Number, Stuck, line, opened}
 
 -- the shortest line, which every beginning of the opening begins
 one : Number (49 ∷ [])

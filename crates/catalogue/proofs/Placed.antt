@@ -1,9 +1,9 @@
 -- A line that was read at a place of a text.
-use Rattle.std.proofs.Common.{◌≡◌, ℕ, ◌+◌, ◌-◌, ◌<◌, ◌≤◌, List, length, take, drop, sym, refl, ap, ◌∙◌, subst, arith}
+use Rattle.std.proofs.Common.{◌≡◌, ℕ, ◌+◌, ◌-◌, ◌≤◌, List, length, take, drop, sym, ap, ◌∙◌, subst, arith}
 use Rattle.std.proofs.lemmas.List.{drop-drop, length-drop, length-take-le}
 use Rattle.catalogue.specs.declared.line.Line.{Line}
 use Rattle.catalogue.specs.Entries.{LotAt}
-use Rattle.catalogue.specs.Lines.{IsLine, LineOf, LotValue}
+use Rattle.catalogue.specs.Lines.{IsLine}
 use Rattle.catalogue.specs.Reading.{Parts}
 
 pub lot_at : (text : List ℕ) (at : ℕ) (l : Line) (mark : List ℕ) → at ≤ length text → Parts (drop at text) l → mark ≡ take (at + 5 + l.digits + l.letters - (at + 5 + l.digits)) (drop (at + 5 + l.digits) text)

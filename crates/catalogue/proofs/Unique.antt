@@ -1,10 +1,10 @@
 -- A text has one reading: lines are told apart, and a text that begins with a line is not stuck in it.
-use Rattle.std.proofs.Common.{◌≡◌, ℕ, zero, suc, ◌+◌, ◌-◌, ◌<◌, ◌≤◌, Bool, true, false, ◌⊎◌, List, [], ◌∷◌, ◌++◌, length, take, drop, Some, None, Option, sym, refl, ap, ◌∙◌, subst, inl, inr, append_assoc, append-nil, arith}
-use Rattle.std.proofs.lemmas.List.{length-append, nil_from_length, take_all, take-append-drop, take-append-le, take-take}
+use Rattle.std.proofs.Common.{◌≡◌, ℕ, suc, ◌+◌, ◌-◌, ◌<◌, ◌≤◌, Bool, true, false, ◌⊎◌, List, [], ◌∷◌, ◌++◌, length, take, drop, Some, None, Option, sym, refl, ap, ◌∙◌, subst, inl, inr, append_assoc, append-nil, arith}
+use Rattle.std.proofs.lemmas.List.{length-append, nil_from_length, take-append-drop, take-append-le, take-take}
 use Rattle.std.proofs.lemmas.Bool.{both_ways, cases_lt, cases_order}
 use Rattle.std.specs.List.{AllByRecursion}
 use Rattle.automaton.specs.declared.fault.Fault.{Fault}
-use Rattle.catalogue.specs.Lines.{Begins, IsLine, LineOf, Lines, LotValue, Number, Stuck, digit, letter, line, value}
+use Rattle.catalogue.specs.Lines.{Begins, IsLine, Lines, LotValue, Stuck, digit, letter, line, value}
 use Rattle.catalogue.specs.Entries.{bad_line}
 use Rattle.catalogue.specs.Listing.{Ended, Reading}
 

@@ -1,4 +1,6 @@
 // A sale's catalogue: lot lines, read one after another.
+#![tactic(auto)]
+
 pub mod entry;
 mod line;
 pub mod listing;

@@ -60,7 +60,7 @@ fn the_reader_stays(rt: HostRuntime) -> Result<(), Fail> {
     match reader.next() {
         Ok(Entry::Lot(lot)) => {
             assert_eq!(rt; lot.number, 17);
-            assert!(rt; lot.mark == b"abba");
+            assert!(rt; lot.mark == b"abba".as_slice());
         }
         _ => return Err(Fail::new("a lot was to come")),
     }

@@ -1,8 +1,8 @@
 -- The words that a combination keeps.
-use Rattle.std.proofs.Common.{◌≡◌, ℕ, ◌+◌, ◌-◌, ◌*◌, ◌/◌, ◌%◌, ◌<◌, ◌≤◌, Bool, true, false, cond, not, ◌&&◌, eqb, ltb, leb, ◌↔◌, List, [], ◌∷◌, sym, refl, ap, ◌∙◌, subst, arith}
+use Rattle.std.proofs.Common.{◌≡◌, ℕ, ◌+◌, ◌-◌, ◌*◌, ◌<◌, ◌≤◌, Bool, true, false, not, ◌&&◌, ◌↔◌, List, [], ◌∷◌, sym, refl, ap, ◌∙◌, subst, arith}
 use Rattle.std.proofs.lemmas.Nat.{div-mul-add, mod-mul-add}
-use Rattle.std.proofs.lemmas.Bool.{and_from, and_parts, both_ways, cond-false, cond-true, le-ltb, lt-ltb, not_from_false, not-true}
-use Rattle.automaton.specs.Automata.{Automaton, Lawful, automaton, blank}
+use Rattle.std.proofs.lemmas.Bool.{and_from, and_parts, both_ways, cond-false, cond-true, le-ltb, lt-ltb, not-true}
+use Rattle.automaton.specs.Automata.{Automaton, Lawful, automaton}
 use Rattle.automaton.specs.Languages.{Drops, Keeps}
 use Rattle.automaton.specs.Words.{Over, walk}
 use Rattle.automaton.proofs.Walks.{walk_below}

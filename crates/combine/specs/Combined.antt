@@ -16,7 +16,7 @@
 --   intersection        the product of two automata that fit, and else the blank automaton
 --   disjoint_union      two automata beside each other if they fit, and else the blank automaton
 --   difference          the intersection of the first with the complement of the second
-use Rattle.std.specs.Prelude.{ℕ, ◌+◌, ◌-◌, ◌*◌, ◌/◌, ◌%◌, Bool, true, false, cond, not, ◌&&◌, Ok, Err, Result, ◌==◌, nat_le, nat_lt}
+use Rattle.std.specs.Prelude.{ℕ, ◌+◌, ◌-◌, ◌*◌, ◌/◌, ◌%◌, Bool, false, cond, not, ◌&&◌, Ok, Err, Result, ◌==◌, nat_le, nat_lt}
 use Rattle.automaton.specs.declared.fault.Fault.{Fault}
 use Rattle.automaton.specs.declared.kind.FaultKind.TheVariants.{LettersDiffer, TooManyStates}
 use Rattle.automaton.specs.declared.layer.Layer.TheVariants.{Combined}

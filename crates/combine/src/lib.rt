@@ -1,4 +1,6 @@
 // Rules made out of rules: complement, intersection, disjoint union, difference.
+#![tactic(auto)]
+
 pub mod complement;
 pub mod difference;
 pub mod disjoint_union;

@@ -1,7 +1,7 @@
 -- What a rule that is read off a sheet holds after the sheet was offered to it, whatever kind of sheet it is.
 --   wrong_length    the refusal of a sheet that has more or fewer bytes than its header asks for
 --   padding_set     the refusal of a sheet with a bit set after its last field
---   out_of_memory   the refusal for want of memory
+--   out-of-memory   the refusal for want of memory
 --   answered        the answer to a fault, or to none
 --   held_after      the bytes held after it: those of the sheet, or with a fault the old ones
 --   Taken           answer and bytes are those of the first fault of the sheet

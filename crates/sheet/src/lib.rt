@@ -1,4 +1,6 @@
 // Fields of bits, and the rules that are read off the bits of a sheet: of a table, and of a nondeterministic automaton.
+#![tactic(auto)]
+
 pub mod bits;
 mod checks;
 mod layout;

@@ -1,4 +1,6 @@
 // A trial sale: sorts the lots of a catalogue by a buyer's rule.
+#![tactic(auto)]
+
 mod buyer;
 mod files;
 mod report;

@@ -65,29 +65,25 @@ fn refusals(rt: HostRuntime) -> Result<(), Fail> {
     )
 }
 
-// Whether a sale by the files that are there prints what is expected.
-fn sells(rt: &HostRuntime, expected: &[u8]) -> Result<(), Fail> {
-    let Ok(out) = print_sale(rt) else {
-        assert!(false);
-        return Ok(());
-    };
-    assert!(out.as_slice() == expected);
-    Ok(())
+// What a sale by the files that are there prints.
+fn sold(rt: &HostRuntime) -> Result<Vec<u8>, Fail> {
+    Ok(print_sale(rt)?)
 }
 
 // With no file; then with a nondeterministic automaton; then with a table beside it, which is preferred.
 #[test]
 fn files(rt: HostRuntime) -> Result<(), Fail> {
-    sells(&rt, b"refused 1\n")?;
-    assert!(rt; fs::write(&rt, "buyer.nfa", &[0x01, 0x94]).is_ok());
-    assert!(rt; fs::write(&rt, "catalogue.txt", "LOT 1 a\nLOT 2 aa\n").is_ok());
-    sells(
-        &rt,
-        b"LOT 1 a kept\nLOT 2 aa dropped\n2 lots: 1 kept, 1 dropped, 0 unknown\n",
-    )?;
-    assert!(rt; fs::write(&rt, "buyer.rule", &EVEN).is_ok());
-    sells(
-        &rt,
-        b"LOT 1 a dropped\nLOT 2 aa kept\n2 lots: 1 kept, 1 dropped, 0 unknown\n",
-    )
+    assert!(rt; sold(&rt)?.as_slice() == b"refused 1\n".as_slice());
+    fs::write(&rt, "buyer.nfa", &[0x01, 0x94])?;
+    fs::write(&rt, "catalogue.txt", "LOT 1 a\nLOT 2 aa\n")?;
+    assert!(rt;
+        sold(&rt)?.as_slice()
+            == b"LOT 1 a kept\nLOT 2 aa dropped\n2 lots: 1 kept, 1 dropped, 0 unknown\n".as_slice(),
+    );
+    fs::write(&rt, "buyer.rule", &EVEN)?;
+    assert!(rt;
+        sold(&rt)?.as_slice()
+            == b"LOT 1 a dropped\nLOT 2 aa kept\n2 lots: 1 kept, 1 dropped, 0 unknown\n".as_slice(),
+    );
+    Ok(())
 }

@@ -1,7 +1,7 @@
-use Rattle.std.proofs.Common.{◌≡◌, ◌<◌, ◌≤◌, length, get_or, Err, sym, ap, ◌∙◌, arith}
+use Rattle.std.proofs.Common.{◌≡◌, ◌≤◌, length, get_or, Err, sym, ap, ◌∙◌, arith}
 use Rattle.automaton.specs.declared.size.Size.{Size}
 use Rattle.automaton.specs.Meanings.{meaning}
-use Rattle.automaton.specs.Words.{letter_of, spelled}
+use Rattle.automaton.specs.Words.{spelled}
 use Rattle.automaton.proofs.Steps.{next_below, next_refused, next_told}
 use Rattle.automaton.proofs.Walks.{spelled_at, spelled_length, walk_ends, walk_more, walk_starts, walk_stops}
 use Rattle.automaton.proofs.walk.follow.Goals as goal

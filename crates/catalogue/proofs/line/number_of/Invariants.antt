@@ -1,4 +1,4 @@
-use Rattle.std.proofs.Common.{◌≡◌, ◌-◌, map, take}
+use Rattle.std.proofs.Common.{◌≡◌, take}
 use Rattle.catalogue.specs.Lines.{value}
 use Rattle.catalogue.proofs.line.number_of.Given as goal
 

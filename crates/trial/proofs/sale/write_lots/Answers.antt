@@ -1,4 +1,4 @@
-use Rattle.std.proofs.Common.{◌≡◌, List, [], ◌++◌, take, vec_items, ap, ◌∙◌, subst, arith}
+use Rattle.std.proofs.Common.{◌≡◌, List, [], ◌++◌, take, vec_items, subst, arith}
 use Rattle.std.proofs.lemmas.List.{take_all}
 use Rattle.automaton.specs.Meanings.{meaning}
 use Rattle.catalogue.specs.declared.entry.Lot.{Lot}

@@ -1,4 +1,4 @@
-use Rattle.std.proofs.Common.{◌≡◌, List, ◌++◌, vec_items, ap, ◌∙◌, subst}
+use Rattle.std.proofs.Common.{◌≡◌, List, ◌++◌, vec_items, ap, ◌∙◌}
 use Rattle.automaton.specs.Meanings.{meaning}
 use Rattle.catalogue.specs.declared.entry.Lot.{Lot}
 use Rattle.catalogue.specs.Listing.{values}

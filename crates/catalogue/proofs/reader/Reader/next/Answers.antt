@@ -1,4 +1,4 @@
-use Rattle.std.proofs.Common.{◌≡◌, ℕ, ◌+◌, ◌≤◌, List, length, drop, sym, refl, ap, ◌∙◌, subst, inr, arith, rules}
+use Rattle.std.proofs.Common.{ℕ, List, drop, refl, subst, inr, arith, rules}
 use Rattle.std.proofs.lemmas.List.{take_rest}
 use Rattle.catalogue.specs.Lines.{Stuck}
 use Rattle.catalogue.specs.Reading.{Parts}

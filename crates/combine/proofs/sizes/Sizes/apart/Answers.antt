@@ -1,4 +1,4 @@
-use Rattle.std.proofs.Common.{ℕ, ◌*◌, ◌<◌, ◌≤◌, refl, arith}
+use Rattle.std.proofs.Common.{◌≤◌, refl}
 use Rattle.std.proofs.lemmas.Nat.{div_below, mod_below}
 use Rattle.combine.proofs.Pairs.{some_second}
 use Rattle.combine.proofs.sizes.Sizes.apart.Goals as goal
