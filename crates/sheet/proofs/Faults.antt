@@ -4,8 +4,7 @@ use Rattle.automaton.specs.declared.fault.Fault.{Fault}
 use Rattle.automaton.specs.declared.kind.FaultKind.{FaultKind}
 use Rattle.automaton.specs.declared.kind.FaultKind.TheVariants.{Truncated, WrongLength, TargetOutOfRange, PaddingSet}
 use Rattle.sheet.specs.Bits.{truncated}
-use Rattle.sheet.specs.Holding.{answered, padding_set, wrong_length}
-use Rattle.sheet.specs.Opening.{or_else, strayed}
+use Rattle.sheet.specs.Opening.{answered, or_else, padding_set, strayed, wrong_length}
 
 -- the checks as one: too short, of the right length, a stray next state, no bit set after the last row
 unfoldable pub chain : Bool → Bool → Option Fault → Bool → Option Fault

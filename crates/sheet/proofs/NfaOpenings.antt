@@ -3,9 +3,9 @@ use Rattle.std.proofs.Common.{◌≡◌, ℕ, ◌*◌, Bool, true, false, cond, 
 use Rattle.std.proofs.lemmas.Bool.{eq-eqb, eqb-true, le-ltb, ltb-false}
 use Rattle.automaton.specs.declared.fault.Fault.{Fault}
 use Rattle.sheet.specs.Bits.{truncated}
-use Rattle.sheet.specs.Holding.{Taken, answered, held_after, padding_set, wrong_length}
 use Rattle.sheet.specs.NfaLayout.{NfaWellFormed, nfa_bits, nfa_bytes, nfa_padding, own_count, pictured, setwise}
-use Rattle.sheet.specs.NfaOpening.{NfaOpened, nfa_fault, too_many_own}
+use Rattle.sheet.specs.NfaOpening.{NfaOpened, NfaTaken, nfa_fault, too_many_own}
+use Rattle.sheet.specs.Opening.{answered, held_after, padding_set, wrong_length}
 use Rattle.sheet.specs.Subsets.{Subsets}
 use Rattle.sheet.proofs.Faults.{answered_ok}
 use Rattle.sheet.proofs.Pictures.{setwise_subsets}
@@ -58,7 +58,7 @@ module _ (bs : List ℕ) where
         unset = eq-eqb (nfa_padding bs) 0 (clear_field bs (nfa_bits bs) (8 * length bs) h.clear);
       })
 
-pub nfa_opened : (sheet old new : List ℕ) (r : Result (Unit {0}) Fault) → Taken (nfa_fault sheet) sheet old new r → NfaOpened sheet old new (setwise new) r
+pub nfa_opened : (sheet old new : List ℕ) (r : Result (Unit {0}) Fault) → NfaTaken sheet old new r → NfaOpened sheet old new (setwise new) r
 nfa_opened sheet old new r t =
     record {
       answer = t.answer;

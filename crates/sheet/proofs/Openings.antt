@@ -4,9 +4,8 @@ use Rattle.std.proofs.lemmas.Bool.{eq-eqb, eqb-true, le-ltb, ltb-false}
 use Rattle.automaton.specs.declared.fault.Fault.{Fault}
 use Rattle.automaton.specs.Diagrams.{Accepts}
 use Rattle.automaton.specs.Languages.{Keeps}
-use Rattle.sheet.specs.Holding.{Taken, answered, held_after}
 use Rattle.sheet.specs.Layout.{Closed, WellFormed, drawn, padding, sheet_bits, sheet_bytes, tabled}
-use Rattle.sheet.specs.Opening.{Opened, Stray, fault_of, stray_fault, strayed}
+use Rattle.sheet.specs.Opening.{Opened, Stray, Taken, answered, fault_of, held_after, stray_fault, strayed}
 use Rattle.sheet.proofs.Drawings.{keeps_drawn}
 use Rattle.sheet.proofs.Faults.{Passed, answered_err, answered_ok, chain, passed, passing, strays}
 use Rattle.sheet.proofs.Strays.{closed_none, none_closed, some_stray}
@@ -46,7 +45,7 @@ module _ (bs : List ℕ) where
   first_stray p a e =
       some_stray bs p a (strays (ltb (length bs) 2) (eqb (length bs) (sheet_bytes bs)) (stray_fault bs) (eqb (padding bs) 0) p a e)
 
-pub opened : (sheet old new : List ℕ) (r : Result (Unit {0}) Fault) → Taken (fault_of sheet) sheet old new r → Opened sheet old new (tabled new) r
+pub opened : (sheet old new : List ℕ) (r : Result (Unit {0}) Fault) → Taken sheet old new r → Opened sheet old new (tabled new) r
 opened sheet old new r t =
     record {
       answer = t.answer;

@@ -10,7 +10,7 @@ use Rattle.sheet.specs.NfaLayout.{followed, meets, next_set, own_count, set_at, 
 use Rattle.sheet.specs.Sets.{union}
 
 -- the bits of a field that is 0
-zero_bits : (bs : List ℕ) (i w : ℕ) → field bs i w ≡ 0 → (k : ℕ) → k < w → bit bs (i + k) ≡ 0
+pub zero_bits : (bs : List ℕ) (i w : ℕ) → field bs i w ≡ 0 → (k : ℕ) → k < w → bit bs (i + k) ≡ 0
 unfolding field
 zero_bits bs i zero e k l = absurd (not-suc-le-zero l)
 zero_bits bs i (suc w) e k l =
@@ -23,7 +23,7 @@ zero_bits bs i (suc w) e k l =
     go rest here (inr q) = rest q
 
 -- a field whose bits are 0
-zero_field : (bs : List ℕ) (i w : ℕ) → ((k : ℕ) → k < w → bit bs (i + k) ≡ 0) → field bs i w ≡ 0
+pub zero_field : (bs : List ℕ) (i w : ℕ) → ((k : ℕ) → k < w → bit bs (i + k) ≡ 0) → field bs i w ≡ 0
 unfolding field
 zero_field bs i zero h = refl
 zero_field bs i (suc w) h = omega (arith, zero_field bs i w (λ k l. h k (omega arith)), h w (omega arith))

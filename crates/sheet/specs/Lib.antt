@@ -1,7 +1,6 @@
 pub mod Bits
 pub mod Bounds
 pub mod First
-pub mod Holding
 pub mod Layout
 pub mod NfaLayout
 pub mod NfaOpening

@@ -5,8 +5,10 @@
 --   NfaOpened      the promise of opening, with the meaning of the rule afterwards: answer and bytes are the defined ones; it
 --                  succeeds exactly on a well-formed sheet; the rule is that of the bytes held; it is then the subset construction of
 --                  the automaton that the sheet pictures; and the words that it then keeps are those that this automaton accepts
---   NfaCopied      the promise of opening a copy: opened, or not copied for want of memory
-use Rattle.std.specs.Prelude.{◌≡◌, ℕ, cond, ◌⊎◌, ◌↔◌, List, length, Some, None, Ok, Option, Result, ◌==◌, nat_lt}
+--   NfaTaken       answer and bytes are the defined ones
+--   NfaNotCopied   a sheet without a fault was not copied for want of memory, and the old bytes are held
+--   NfaCopied      the promise of opening a copy: opened, or not copied
+use Rattle.std.specs.Prelude.{◌≡◌, ℕ, cond, ◌⊎◌, ◌↔◌, List, length, Some, None, Ok, Err, Option, Result, ◌==◌, nat_lt}
 use Rattle.automaton.specs.declared.fault.Fault.{Fault}
 use Rattle.automaton.specs.declared.kind.FaultKind.TheVariants.{TooManyNfaStates}
 use Rattle.automaton.specs.declared.layer.Layer.TheVariants.{Sheet}
@@ -15,8 +17,8 @@ use Rattle.automaton.specs.Diagrams.{Accepts}
 use Rattle.automaton.specs.Faults.{refusal}
 use Rattle.automaton.specs.Languages.{Keeps}
 use Rattle.sheet.specs.Bits.{truncated}
-use Rattle.sheet.specs.Holding.{NotCopied, answered, held_after, padding_set, wrong_length}
 use Rattle.sheet.specs.NfaLayout.{NfaWellFormed, nfa_bytes, nfa_padding, own_count, pictured, setwise}
+use Rattle.sheet.specs.Opening.{answered, held_after, out_of_memory, padding_set, wrong_length}
 use Rattle.sheet.specs.Subsets.{Subsets}
 
 abbrev pub too_many_own : Fault
@@ -37,5 +39,14 @@ pub record NfaOpened (sheet old new : List ℕ) (rule : Automaton) (r : Result (
   pub subsets : r ≡ Ok tt → Subsets (pictured sheet) rule
   pub keeps : r ≡ Ok tt → (w : List ℕ) → Keeps rule w ↔ Accepts (pictured sheet) w
 
+pub record NfaTaken (sheet old new : List ℕ) (r : Result (Unit {0}) Fault) : Type 0 where
+  pub answer : r ≡ answered (nfa_fault sheet)
+  pub held : new ≡ held_after (nfa_fault sheet) old sheet
+
+pub record NfaNotCopied (sheet old new : List ℕ) (r : Result (Unit {0}) Fault) : Type 0 where
+  pub answer : r ≡ Err out_of_memory
+  pub faultless : nfa_fault sheet ≡ None
+  pub held : new ≡ old
+
 abbrev pub NfaCopied : List ℕ → List ℕ → List ℕ → Automaton → Result (Unit {0}) Fault → Type 0
-NfaCopied sheet old new rule r = NfaOpened sheet old new rule r ⊎ (NotCopied (nfa_fault sheet) old new r × (rule ≡ setwise new))
+NfaCopied sheet old new rule r = NfaOpened sheet old new rule r ⊎ (NfaNotCopied sheet old new r × (rule ≡ setwise new))

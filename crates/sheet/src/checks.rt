@@ -1,8 +1,7 @@
 // Whether a table sheet may be opened.
 ghost use Rattle.std.specs.Prelude.{◌≡◌};
-ghost use Rattle.sheet.specs.Holding.{answered};
 ghost use Rattle.sheet.specs.Layout.{Headed};
-ghost use Rattle.sheet.specs.Opening.{fault_of, stray_fault};
+ghost use Rattle.sheet.specs.Opening.{answered, fault_of, stray_fault};
 
 use crate::bits::{read_bits, read_field};
 use crate::layout::{header, row_start, stray_letter};

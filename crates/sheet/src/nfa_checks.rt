@@ -1,7 +1,7 @@
 // Whether the sheet of a nondeterministic automaton may be opened.
 ghost use Rattle.std.specs.Prelude.{◌≡◌};
-ghost use Rattle.sheet.specs.Holding.{answered};
 ghost use Rattle.sheet.specs.NfaOpening.{nfa_fault};
+ghost use Rattle.sheet.specs.Opening.{answered};
 
 use crate::bits::{read_bits, read_field};
 use crate::nfa_layout::{bit_count, read_counts};

@@ -2,8 +2,7 @@
 ghost use Rattle.std.specs.Prelude.{◌≡◌, ◌⊎◌, []};
 ghost use Rattle.automaton.specs.Automata.{blank as blank_automaton};
 ghost use Rattle.automaton.specs.Meanings.{meaning};
-ghost use Rattle.sheet.specs.Holding.{NotCopied, Taken};
-ghost use Rattle.sheet.specs.NfaOpening.{NfaCopied, NfaOpened, nfa_fault};
+ghost use Rattle.sheet.specs.NfaOpening.{NfaCopied, NfaNotCopied, NfaOpened, NfaTaken};
 ghost use Rattle.sheet.specs.contracts.nfa.NfaRule.TheImpl.{ghosts};
 
 use crate::nfa::Nfa;
@@ -38,7 +37,7 @@ impl Nfa {
 
     // Holds a sheet, or refuses its first fault.
     fn take(&mut self, sheet: Vec<u8>) -> Result<(), Fault>
-        ensures { Taken (nfa_fault sheet.items) sheet.items self.old.bytes.items self.new.bytes.items result }
+        ensures { NfaTaken sheet.items self.old.bytes.items self.new.bytes.items result }
     {
         nfa_first_fault(&sheet)?;
         self.hold(sheet);
@@ -47,7 +46,7 @@ impl Nfa {
 
     // Holds a copy of a sheet, or refuses its first fault, or refuses for want of memory.
     fn take_copy(&mut self, heap: Global, sheet: &[u8]) -> Result<(), Fault>
-        ensures { Taken (nfa_fault sheet.now) sheet.now self.old.bytes.items self.new.bytes.items result ⊎ NotCopied (nfa_fault sheet.now) self.old.bytes.items self.new.bytes.items result }
+        ensures { NfaTaken sheet.now self.old.bytes.items self.new.bytes.items result ⊎ NfaNotCopied sheet.now self.old.bytes.items self.new.bytes.items result }
     {
         nfa_first_fault(sheet)?;
         let Ok(copy) = Vec::from_slice(heap, sheet) else {

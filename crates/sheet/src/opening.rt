@@ -2,8 +2,7 @@
 ghost use Rattle.std.specs.Prelude.{◌≡◌, ◌⊎◌, []};
 ghost use Rattle.automaton.specs.Automata.{blank as blank_automaton};
 ghost use Rattle.automaton.specs.Meanings.{meaning};
-ghost use Rattle.sheet.specs.Holding.{NotCopied, Taken};
-ghost use Rattle.sheet.specs.Opening.{Copied, Opened, fault_of};
+ghost use Rattle.sheet.specs.Opening.{Copied, NotCopied, Opened, Taken};
 ghost use Rattle.sheet.specs.contracts.table.TableRule.TheImpl.{ghosts};
 
 use crate::checks::first_fault;
@@ -38,7 +37,7 @@ impl Table {
 
     // Holds a sheet, or refuses its first fault.
     fn take(&mut self, sheet: Vec<u8>) -> Result<(), Fault>
-        ensures { Taken (fault_of sheet.items) sheet.items self.old.bytes.items self.new.bytes.items result }
+        ensures { Taken sheet.items self.old.bytes.items self.new.bytes.items result }
     {
         first_fault(&sheet)?;
         self.hold(sheet);
@@ -47,7 +46,7 @@ impl Table {
 
     // Holds a copy of a sheet, or refuses its first fault, or refuses for want of memory.
     fn take_copy(&mut self, heap: Global, sheet: &[u8]) -> Result<(), Fault>
-        ensures { Taken (fault_of sheet.now) sheet.now self.old.bytes.items self.new.bytes.items result ⊎ NotCopied (fault_of sheet.now) self.old.bytes.items self.new.bytes.items result }
+        ensures { Taken sheet.now self.old.bytes.items self.new.bytes.items result ⊎ NotCopied sheet.now self.old.bytes.items self.new.bytes.items result }
     {
         first_fault(sheet)?;
         let Ok(copy) = Vec::from_slice(heap, sheet) else {

@@ -9,9 +9,10 @@
 --   ended_text    the line of the refusal that ended the list, which names its place; nothing if there was none
 --   sale_text     the lines of a sale, of the lots that were read and of how the reading ended
 --   Sale          the lines of a sale are added to what was printed before: those of what reading the catalogue to its end gives
---   PrintedBy     all that is printed for an opening's answer, the rule that is then held, and a catalogue: for a refused sheet its
---                 line and nothing else, and else the lines of the sale
---   Printed       all that is printed for a buyer's sheet, of a table or of a nondeterministic automaton, and a catalogue
+--   Printed       all that is printed for a sheet and a catalogue: for a refused sheet its line and nothing else, and else the lines
+--                 of the sale
+--   NfaPrinted    the same for the sheet of a nondeterministic automaton
+--   BuyerPrinted  the same for a buyer's sheet, of a table or of a nondeterministic automaton
 use Rattle.std.specs.Prelude.{◌≡◌, ℕ, ◌+◌, Bool, true, false, List, [], ◌++◌, Some, None, Ok, Err, vec_items, codes, decimal, sum_by, Option, Result}
 use Rattle.std.specs.List.{flat_map}
 use Rattle.automaton.specs.declared.fault.Fault.{Fault}
@@ -22,7 +23,6 @@ use Rattle.automaton.specs.Languages.{keeps_answer}
 use Rattle.automaton.specs.Words.{spelled}
 use Rattle.catalogue.specs.Lines.{LotValue}
 use Rattle.catalogue.specs.Listing.{Listed}
-use Rattle.sheet.specs.Holding.{answered}
 use Rattle.sheet.specs.Layout.{tabled}
 use Rattle.sheet.specs.NfaLayout.{setwise}
 use Rattle.sheet.specs.NfaOpening.{nfa_fault}
@@ -89,10 +89,16 @@ pub record Sold (m : Automaton) (text before after : List ℕ) (lots : List LotV
 abbrev pub Sale : Automaton → List ℕ → List ℕ → List ℕ → Type 0
 Sale m text before after = (lots : List LotValue) × (fault : Option Fault) × Sold m text before after lots fault
 
-abbrev pub PrintedBy : Result (Unit {0}) Fault → Automaton → List ℕ → List ℕ → Type 0
-PrintedBy (Err f) m text out = out ≡ refused_text f
-PrintedBy (Ok x) m text out = Sale m text [] out
+abbrev pub PrintedBy : Option Fault → Automaton → List ℕ → List ℕ → Type 0
+PrintedBy (Some f) m text out = out ≡ refused_text f
+PrintedBy None m text out = Sale m text [] out
 
-abbrev pub Printed : Buyer → List ℕ → List ℕ → Type 0
-Printed (Table sheet) text out = PrintedBy (answered (fault_of (vec_items sheet))) (tabled (vec_items sheet)) text out
-Printed (Nfa sheet) text out = PrintedBy (answered (nfa_fault (vec_items sheet))) (setwise (vec_items sheet)) text out
+abbrev pub Printed : List ℕ → List ℕ → List ℕ → Type 0
+Printed sheet text out = PrintedBy (fault_of sheet) (tabled sheet) text out
+
+abbrev pub NfaPrinted : List ℕ → List ℕ → List ℕ → Type 0
+NfaPrinted sheet text out = PrintedBy (nfa_fault sheet) (setwise sheet) text out
+
+abbrev pub BuyerPrinted : Buyer → List ℕ → List ℕ → Type 0
+BuyerPrinted (Table sheet) text out = Printed (vec_items sheet) text out
+BuyerPrinted (Nfa sheet) text out = NfaPrinted (vec_items sheet) text out

@@ -1,13 +1,13 @@
 // The files of a trial sale, in the folder where it is run.
 use crate::buyer::Buyer;
-use crate::sale::report;
+use crate::sale::report_buyer;
 use std::{fs, io};
 
 // Reads the files and makes all that is to be printed.
 pub fn print_sale(rt: &HostRuntime) -> anyhow::Result<Vec<u8>> {
     let buyer = read_buyer(rt)?;
     let text = read_or_empty(rt, "catalogue.txt")?;
-    let out = report(rt.alloc(), buyer, text.as_slice())?;
+    let out = report_buyer(rt.alloc(), buyer, text.as_slice())?;
     Ok(out)
 }
 

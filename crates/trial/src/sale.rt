@@ -2,17 +2,11 @@
 ghost use Rattle.std.specs.Prelude.{◌≡◌, ◌+◌, ◌++◌, length, IfOk, OnOk};
 ghost use Rattle.automaton.specs.Meanings.{meaning};
 ghost use Rattle.catalogue.specs.Listing.{values};
-ghost use Rattle.sheet.specs.Holding.{answered};
-ghost use Rattle.sheet.specs.Layout.{tabled};
-ghost use Rattle.sheet.specs.NfaLayout.{setwise};
-ghost use Rattle.sheet.specs.NfaOpening.{nfa_fault};
-ghost use Rattle.sheet.specs.Opening.{fault_of};
-ghost use Rattle.trial.specs.Reports.{lots_text, Printed, PrintedBy, Sale, tally_of};
+ghost use Rattle.trial.specs.Reports.{BuyerPrinted, lots_text, NfaPrinted, Printed, Sale, tally_of};
 
 use crate::buyer::Buyer;
 use crate::report::{write_end, write_lot, write_refused, write_sum};
 use crate::tally::Tally;
-use automaton::fault::Fault;
 use automaton::rule::Rule;
 use automaton::walk::keeps_text;
 use catalogue::entry::Lot;
@@ -61,48 +55,40 @@ fn write_sale<R: Rule>(
     Ok(())
 }
 
-// All that is printed once a sheet was opened or refused, and a rule is held.
-fn print_opened<R: Rule>(
-    heap: Global,
-    opened: Result<(), Fault>,
-    rule: &R,
-    text: &[u8],
-) -> Result<Vec<u8>, AllocError>
-    ensures { IfOk result (λ out. PrintedBy opened (meaning R.Rule rule.now) text.now out.items) }
+// All that a trial sale prints for a sheet and a catalogue.
+pub fn report(heap: Global, sheet: Vec<u8>, text: &[u8]) -> Result<Vec<u8>, AllocError>
+    ensures { IfOk result (λ out. Printed sheet.items text.now out.items) }
 {
     let mut out = Vec::new(heap);
-    if let Err(fault) = opened {
+    let mut table = Table::blank(heap);
+    if let Err(fault) = table.replace(sheet) {
         write_refused(heap, &mut out, fault)?;
         return Ok(out);
     }
-    write_sale(heap, &mut out, rule, text)?;
+    write_sale(heap, &mut out, &table, text)?;
     Ok(out)
 }
 
-// All that is printed for a table sheet.
-fn report_table(heap: Global, sheet: Vec<u8>, text: &[u8]) -> Result<Vec<u8>, AllocError>
-    ensures { IfOk result (λ out. PrintedBy (answered (fault_of sheet.items)) (tabled sheet.items) text.now out.items) }
+// All that a trial sale prints for the sheet of a nondeterministic automaton and a catalogue.
+pub fn report_nfa(heap: Global, sheet: Vec<u8>, text: &[u8]) -> Result<Vec<u8>, AllocError>
+    ensures { IfOk result (λ out. NfaPrinted sheet.items text.now out.items) }
 {
-    let mut table = Table::blank(heap);
-    let opened = table.replace(sheet);
-    print_opened(heap, opened, &table, text)
-}
-
-// All that is printed for the sheet of a nondeterministic automaton.
-fn report_nfa(heap: Global, sheet: Vec<u8>, text: &[u8]) -> Result<Vec<u8>, AllocError>
-    ensures { IfOk result (λ out. PrintedBy (answered (nfa_fault sheet.items)) (setwise sheet.items) text.now out.items) }
-{
+    let mut out = Vec::new(heap);
     let mut nfa = Nfa::blank(heap);
-    let opened = nfa.replace(sheet);
-    print_opened(heap, opened, &nfa, text)
+    if let Err(fault) = nfa.replace(sheet) {
+        write_refused(heap, &mut out, fault)?;
+        return Ok(out);
+    }
+    write_sale(heap, &mut out, &nfa, text)?;
+    Ok(out)
 }
 
 // All that a trial sale prints for a buyer's sheet and a catalogue.
-pub fn report(heap: Global, buyer: Buyer, text: &[u8]) -> Result<Vec<u8>, AllocError>
-    ensures { IfOk result (λ out. Printed buyer text.now out.items) }
+pub fn report_buyer(heap: Global, buyer: Buyer, text: &[u8]) -> Result<Vec<u8>, AllocError>
+    ensures { IfOk result (λ out. BuyerPrinted buyer text.now out.items) }
 {
     match buyer {
-        Buyer::Table(sheet) => report_table(heap, sheet, text),
+        Buyer::Table(sheet) => report(heap, sheet, text),
         Buyer::Nfa(sheet) => report_nfa(heap, sheet, text),
     }
 }

@@ -1,10 +1,9 @@
 // Examples: whole reports, and which files are read.
-use crate::buyer::Buyer;
 use crate::files::print_sale;
-use crate::sale::report;
+use crate::sale::{report, report_nfa};
 use std::fs;
 use std::process::Abort;
-use std::test::*;
+use std::test::Fail;
 
 // The words with an even number of the letter a.
 const EVEN: [u8; 7] = [0x10, 0x06, 0x00, 0x80, 0x00, 0x00, 0x01];
@@ -17,20 +16,7 @@ fn prints(
     expected: &[u8],
 ) -> Result<(), Fail> {
     let sheet = Vec::from_slice(rt.alloc(), sheet)?;
-    let out = report(rt.alloc(), Buyer::Table(sheet), text)?;
-    assert!(rt; out.as_slice() == expected);
-    Ok(())
-}
-
-// The same for the sheet of a nondeterministic automaton.
-fn prints_nfa(
-    rt: &(impl Abort + AllocGlobal),
-    sheet: &[u8],
-    text: &[u8],
-    expected: &[u8],
-) -> Result<(), Fail> {
-    let sheet = Vec::from_slice(rt.alloc(), sheet)?;
-    let out = report(rt.alloc(), Buyer::Nfa(sheet), text)?;
+    let out = report(rt.alloc(), sheet, text)?;
     assert!(rt; out.as_slice() == expected);
     Ok(())
 }
@@ -43,26 +29,43 @@ fn sales(rt: HostRuntime) -> Result<(), Fail> {
         b"LOT 17 abba\nLOT 18 ab\nLOT 19 ac\n",
         b"LOT 17 abba kept\nLOT 18 ab dropped\nLOT 19 ac unknown letter at 1\n3 lots: 1 kept, 1 dropped, 1 unknown\n",
     )?;
-    prints(&rt, &EVEN, b"", b"0 lots: 0 kept, 0 dropped, 0 unknown\n")?;
-    prints_nfa(
-        &rt,
-        &[0x01, 0x94],
-        b"LOT 1 a\nLOT 2 aa\nLOT 3 b\n",
-        b"LOT 1 a kept\nLOT 2 aa dropped\nLOT 3 b unknown letter at 0\n3 lots: 1 kept, 1 dropped, 1 unknown\n",
-    )
+    prints(&rt, &EVEN, b"", b"0 lots: 0 kept, 0 dropped, 0 unknown\n")
 }
 
 #[test]
 fn refusals(rt: HostRuntime) -> Result<(), Fail> {
     prints(&rt, b"", b"LOT 1 a\n", b"refused 1\n")?;
     prints(&rt, &[0x00, 0x02, 0x00], b"LOT 1 a\n", b"refused 2\n")?;
-    prints_nfa(&rt, &[0x0a], b"LOT 1 a\n", b"refused 11\n")?;
     prints(
         &rt,
         &EVEN,
         b"LOT 1 b\nLOT 2 a\nLOT 03 a\n",
         b"LOT 1 b kept\nLOT 2 a dropped\nrefused 12 at 20\n2 lots: 1 kept, 1 dropped, 0 unknown\n",
     )
+}
+
+// Whether the report for the sheet of a nondeterministic automaton and a catalogue is as expected.
+fn prints_nfa(
+    rt: &(impl Abort + AllocGlobal),
+    sheet: &[u8],
+    text: &[u8],
+    expected: &[u8],
+) -> Result<(), Fail> {
+    let sheet = Vec::from_slice(rt.alloc(), sheet)?;
+    let out = report_nfa(rt.alloc(), sheet, text)?;
+    assert!(rt; out.as_slice() == expected);
+    Ok(())
+}
+
+#[test]
+fn nfa_sales(rt: HostRuntime) -> Result<(), Fail> {
+    prints_nfa(
+        &rt,
+        &[0x01, 0x94],
+        b"LOT 1 a\nLOT 2 aa\nLOT 3 b\n",
+        b"LOT 1 a kept\nLOT 2 aa dropped\nLOT 3 b unknown letter at 0\n3 lots: 1 kept, 1 dropped, 1 unknown\n",
+    )?;
+    prints_nfa(&rt, &[0x0a], b"LOT 1 a\n", b"refused 11\n")
 }
 
 // What a sale by the files that are there prints.

@@ -1,6 +1,6 @@
 use Rattle.std.proofs.Common.{◌≡◌, is_some, Some, None, Err, sym, ap, ◌∙◌, arith}
-use Rattle.sheet.specs.Holding.{answered}
 use Rattle.sheet.specs.Layout.{state_count, stray_letter}
+use Rattle.sheet.specs.Opening.{answered}
 use Rattle.sheet.proofs.Firsts.{first_nil, first_more, first_found}
 use Rattle.sheet.proofs.Strays.{stray_named}
 use Rattle.sheet.proofs.checks.check_targets.Goals as goal
