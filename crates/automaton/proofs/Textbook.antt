@@ -6,7 +6,7 @@ use Rattle.automaton.specs.Answers.{kept_answer, no_letter, no_state}
 use Rattle.automaton.specs.Automata.{Automaton, Lawful}
 use Rattle.automaton.specs.Diagrams.{Accepts, Diagram, Leads, diagram}
 use Rattle.automaton.specs.Languages.{Drops, Judged, Keeps, Unknown, Walked, keeps_answer}
-use Rattle.automaton.specs.Faults.{and_then}
+use Rattle.automaton.specs.Faults.{and_then, row_of}
 use Rattle.automaton.specs.Words.{Over, resumed, walk, walk_answer, walk_from}
 use Rattle.automaton.proofs.Walks.{walk_below, walk_joined, walk_later, walk_over, walk_refused, walk_starts, walk_told, walk_unknown}
 
@@ -92,8 +92,7 @@ walked m h p w r e = record { answer = e; textbook = λ q. (to q, from q); joine
         go true s = (ltb-true p m.count s, sym (cond-true (ltb p m.count) _ _ s) ∙ sym e ∙ t)
         go false s =
             let x : ◌≡◌ {A = Result ℕ Fault} (Err no_state) (Ok q) = sym (cond-false (ltb p m.count) _ _ s) ∙ sym e ∙ t in
-            let z : ◌≡◌ {A = ℕ} 0 1 = cc in
-            absurd (omega arith)
+            absurd cc
 
     to : (q : ℕ) → r ≡ Ok q → Leads (diagram m) p w q
     to q t =
@@ -130,8 +129,7 @@ judged_told m h w b e = go (walk_from m 0 m.start w) refl
     go (Err f) s =
         let x : walk_answer m m.start w ≡ Err f = walk_starts m w m.start h.begins ∙ s in
         let y : ◌≡◌ {A = Result Bool Fault} (Err f) (Ok b) = sym (ap (λ (x : Result ℕ Fault). and_then x (λ q. kept_answer m.count m.kept q)) x) ∙ e in
-        let z : ◌≡◌ {A = ℕ} 0 1 = cc in
-        absurd (omega arith)
+        absurd cc
 
 judged_kept : (m : Automaton) → Lawful m → (w : List ℕ) (b : Bool) → keeps_answer m w ≡ Ok b → m.kept (walk m m.start w) ≡ b
 judged_kept m h w b e =
@@ -187,8 +185,7 @@ judged m h w r e = record { answer = e; keeps = (keeps_to, keeps_from); drops = 
         go (Ok q) s =
             let y : ◌≡◌ {A = Result Bool Fault} (Ok (m.kept (walk m m.start w))) (Err (no_letter i)) =
             sym (judged_over m h w (walk_told m 0 m.start w q s).0) ∙ sym e ∙ t in
-            let z : ◌≡◌ {A = ℕ} 0 1 = cc in
-            absurd (omega arith)
+            absurd cc
         go (Err f) s =
             let k = walk_refused m 0 m.start w f s in
             let y : ◌≡◌ {A = Result Bool Fault} (Err f) (Err (no_letter i)) = sym (passed f s) ∙ t in
@@ -197,7 +194,7 @@ judged m h w r e = record { answer = e; keeps = (keeps_to, keeps_from); drops = 
             subst (Unknown m w) n k.1
           where
             placed : (f : Fault) (k : ℕ) → f ≡ no_letter k → ◌≡◌ {A = Result Bool Fault} (Err f) (Err (no_letter i)) → k ≡ i
-            placed f k a b = let c : f ≡ no_letter i = cc in ap (λ (x : Fault). x.place) (sym a ∙ c)
+            placed f k a b = let c : f ≡ no_letter i = cc in ap (λ (x : Fault). (row_of x.kind).place) (sym a ∙ c)
 
     unknown_from : (i : ℕ) → Unknown m w i → r ≡ Err (no_letter i)
     unknown_from i u = let n : 0 + i ≡ i = omega arith in passed (no_letter i) (walk_unknown m 0 m.start w i u ∙ rw n)

@@ -3,21 +3,28 @@ use Rattle.std.proofs.Common.{◌≡◌, ℕ, zero, suc, ◌+◌, ◌<◌, ◌�
 use Rattle.std.proofs.lemmas.List.{at_drop_more, at_drop_all, get_or-map, length-map}
 use Rattle.std.proofs.lemmas.Bool.{cond-true, cond-false, lt-ltb, le-ltb, ltb-true, ltb-false}
 use Rattle.automaton.specs.declared.fault.Fault.{Fault}
-use Rattle.automaton.specs.declared.spelling.Spelling.{Spelling}
-use Rattle.automaton.specs.declared.spelling.Spelling.TheVariants.{Numbers, Text}
+use Rattle.automaton.specs.declared.word.Word.{Word}
+use Rattle.automaton.specs.declared.word.Word.TheVariants.{Numbers, Text}
 use Rattle.automaton.specs.Answers.{no_letter}
 use Rattle.automaton.specs.Automata.{Automaton, Lawful}
 use Rattle.automaton.specs.Languages.{Unknown}
-use Rattle.automaton.specs.Words.{Over, letter_of, resumed, spelled, text_letter, walk, walk_answer, walk_from}
+use Rattle.automaton.specs.Words.{Over, bytes_of, letter_of, resumed, spelled, text_letter, walk, walk_answer, walk_from}
 
 -- bytes spell one letter each
-pub spelled_length : (s : Spelling) (bytes : List ℕ) → length (spelled s bytes) ≡ length bytes
-spelled_length Numbers bytes = refl
-spelled_length Text bytes = length-map bytes text_letter
+module _ (w : Word) (bytes : List ℕ) (of : bytes ≡ bytes_of w) where
+  pub spelled_length : length (spelled w) ≡ length bytes
+  spelled_length = long w ∙ ap length (sym of)
+    where
+      long : (w : Word) → length (spelled w) ≡ length (bytes_of w)
+      long (Numbers bytes) = refl
+      long (Text bytes) = length-map bytes.now text_letter
 
-pub spelled_at : (s : Spelling) (bytes : List ℕ) (i : ℕ) → i < length bytes → get_or (spelled s bytes) i 0 ≡ letter_of s (get_or bytes i 0)
-spelled_at Numbers bytes i h = refl
-spelled_at Text bytes i h = get_or-map text_letter bytes i 0 0 h
+  pub spelled_at : (i : ℕ) → i < length bytes → get_or (spelled w) i 0 ≡ letter_of w (get_or bytes i 0)
+  spelled_at i h = at w (omega (arith, ap length of)) ∙ ap (λ (x : List ℕ). letter_of w (get_or x i 0)) (sym of)
+    where
+      at : (w : Word) → i < length (bytes_of w) → get_or (spelled w) i 0 ≡ letter_of w (get_or (bytes_of w) i 0)
+      at (Numbers bytes) h = refl
+      at (Text bytes) h = get_or-map text_letter bytes.now i 0 0 h
 
 module _ (m : Automaton) (w : List ℕ) (i p : ℕ) where
   pub walk_more : i < length w → get_or w i 0 < m.letters →
@@ -41,8 +48,7 @@ walk_first m i p a w q e = go (ltb a m.letters) refl
     go true t = (ltb-true a m.letters t, sym (cond-true (ltb a m.letters) _ _ t) ∙ e)
     go false t =
         let x : ◌≡◌ {A = Result ℕ Fault} (Err (no_letter i)) (Ok q) = sym (cond-false (ltb a m.letters) _ _ t) ∙ e in
-        let z : ◌≡◌ {A = ℕ} 0 1 = cc in
-        absurd (omega arith)
+        absurd cc
 
 -- A walk is answered exactly where every letter is there, with the state where it ends.
 pub walk_over : (m : Automaton) (i p : ℕ) (w : List ℕ) → Over m.letters w → walk_from m i p w ≡ Ok (walk m p w)
@@ -91,7 +97,7 @@ walk_unknown m i p (a ∷ w) (suc k) u =
     ∙ walk_unknown m (i + 1) (m.next p a) w k (record { within = omega (arith, u.within); off = u.off; before = λ j h. u.before (suc j) (omega arith) }) ∙ rw n
 
 pub walk_refused : (m : Automaton) (i p : ℕ) (w : List ℕ) (f : Fault) → walk_from m i p w ≡ Err f → (k : ℕ) × Unknown m w k × (f ≡ no_letter (i + k))
-walk_refused m i p [] f e = let z : ◌≡◌ {A = ℕ} 0 1 = cc in absurd (omega arith)
+walk_refused m i p [] f e = absurd cc
 walk_refused m i p (a ∷ w) f e = go (ltb a m.letters) refl (λ rest. walk_refused m (i + 1) (m.next p a) w f rest)
   where
     go : (b : Bool) → ltb a m.letters ≡ b → (walk_from m (i + 1) (m.next p a) w ≡ Err f → (k : ℕ) × Unknown m w k × (f ≡ no_letter (i + 1 + k)))

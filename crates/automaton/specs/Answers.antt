@@ -11,10 +11,10 @@ use Rattle.automaton.specs.declared.size.Size.{Size}
 use Rattle.automaton.specs.Faults.{refusal}
 
 abbrev pub no_state : Fault
-no_state = refusal NoSuchState Rule 0 0
+no_state = refusal NoSuchState Rule
 
 abbrev pub no_letter : ℕ → Fault
-no_letter position = refusal NoSuchLetter Rule position 0
+no_letter position = refusal (NoSuchLetter position) Rule
 
 abbrev pub size_answer : ℕ → ℕ → Size
 size_answer n k = record { states = n; letters = k }

@@ -1,5 +1,5 @@
--- Refusals. For each kind of refusal, each layer and each side: what number it has and what it names.
-use Rattle.std.specs.Prelude.{ℕ, Bool, true, false, cond, Ok, Err, Result}
+-- Refusals. For each kind of refusal, each layer and each side: what number it has; and what a kind names.
+use Rattle.std.specs.Prelude.{ℕ, Ok, Err, Result}
 use Rattle.automaton.specs.declared.fault.Fault.{Fault}
 use Rattle.automaton.specs.declared.kind.FaultKind.{FaultKind}
 use Rattle.automaton.specs.declared.kind.FaultKind.TheVariants.{OutOfMemory, Truncated, WrongLength, TargetOutOfRange, PaddingSet, LettersDiffer, TooManyStates, NoSuchState, TooFewCells, BufferTooShort, NoSuchLetter, TooManyNfaStates, BadLine}
@@ -8,31 +8,31 @@ use Rattle.automaton.specs.declared.layer.Layer.TheVariants.{Sheet, Rule, Combin
 use Rattle.automaton.specs.declared.side.Side.{Side}
 use Rattle.automaton.specs.declared.side.Side.TheVariants.{Neither, First, Second, Pair}
 
--- a row of the table of refusals: the number, whether a place is named (a state of a table, a position in a word, a byte of a
--- catalogue), and whether a letter is
+-- a row of the table of refusals: the number, the place (a state of a table, a position in a word, a byte of a catalogue) and
+-- the letter; the last two are 0 where the kind names none
 pub record Row : Type 0 where
   pub number : ℕ
-  pub place : Bool
-  pub letter : Bool
+  pub place : ℕ
+  pub letter : ℕ
 
-abbrev pub row : ℕ → Bool → Bool → Row
+abbrev pub row : ℕ → ℕ → ℕ → Row
 row n p a = record { number = n; place = p; letter = a }
 
 -- the row of each kind; want of memory stands outside of the table, with the number 0
 abbrev pub row_of : FaultKind → Row
-row_of OutOfMemory = row 0 false false
-row_of Truncated = row 1 false false
-row_of WrongLength = row 2 false false
-row_of TargetOutOfRange = row 3 true true
-row_of PaddingSet = row 4 false false
-row_of LettersDiffer = row 5 false false
-row_of TooManyStates = row 6 false false
-row_of NoSuchState = row 7 false false
-row_of TooFewCells = row 8 false false
-row_of BufferTooShort = row 9 false false
-row_of NoSuchLetter = row 10 true false
-row_of TooManyNfaStates = row 11 false false
-row_of BadLine = row 12 true false
+row_of OutOfMemory = row 0 0 0
+row_of Truncated = row 1 0 0
+row_of WrongLength = row 2 0 0
+row_of (TargetOutOfRange p a) = row 3 p a
+row_of PaddingSet = row 4 0 0
+row_of LettersDiffer = row 5 0 0
+row_of TooManyStates = row 6 0 0
+row_of NoSuchState = row 7 0 0
+row_of TooFewCells = row 8 0 0
+row_of BufferTooShort = row 9 0 0
+row_of (NoSuchLetter i) = row 10 i 0
+row_of TooManyNfaStates = row 11 0 0
+row_of (BadLine i) = row 12 i 0
 
 -- the number of each layer
 abbrev pub layer_number : Layer → ℕ
@@ -50,13 +50,13 @@ side_number First = 1
 side_number Second = 2
 side_number Pair = 3
 
--- a refusal with no side, whose place and letter are 0 where its kind names none
-abbrev pub refusal : FaultKind → Layer → ℕ → ℕ → Fault
-refusal k l p a = record { kind = k; layer = l; side = Neither; place = cond (row_of k).place p 0; letter = cond (row_of k).letter a 0 }
+-- a refusal with no side
+abbrev pub refusal : FaultKind → Layer → Fault
+refusal k l = record { kind = k; layer = l; side = Neither }
 
--- a refusal on a side: number, layer, place and letter stay
+-- a refusal on a side: the kind, with what it names, and the layer stay
 abbrev pub sided : Side → Fault → Fault
-sided s f = record { kind = f.kind; layer = f.layer; side = s; place = f.place; letter = f.letter }
+sided s f = record { kind = f.kind; layer = f.layer; side = s }
 
 -- an answer whose refusal gains a side
 abbrev pub sided_answer : {T : Type 0} → Side → Result T Fault → Result T Fault

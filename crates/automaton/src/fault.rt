@@ -1,4 +1,4 @@
-// Why a call is refused, by which layer, on which side, and where.
+// Why a call is refused, by which layer, and on which side.
 ghost use Rattle.std.specs.Prelude.{◌≡◌};
 ghost use Rattle.automaton.specs.Answers.{no_letter, no_state};
 ghost use Rattle.automaton.specs.Faults.{refusal, sided, sided_answer};
@@ -7,27 +7,23 @@ use crate::kind::FaultKind;
 use crate::layer::Layer;
 use crate::side::Side;
 
-// A refusal. Place and letter are 0 where the kind names none.
+// A refusal. The kind carries the place and the letter, where it names them.
 #[derive(Clone, Copy, PartialEq, Eq, Debug)]
 pub struct Fault {
     pub kind: FaultKind,
     pub layer: Layer,
     pub side: Side,
-    pub place: usize,
-    pub letter: usize,
 }
 
 impl Fault {
-    // A refusal with no side. A place or a letter that the kind does not name is left out.
-    pub fn new(kind: FaultKind, layer: Layer, place: usize, letter: usize) -> Fault
-        ensures { result ≡ refusal kind layer place letter }
+    // A refusal with no side.
+    pub fn new(kind: FaultKind, layer: Layer) -> Fault
+        ensures { result ≡ refusal kind layer }
     {
         Fault {
             kind,
             layer,
             side: Side::Neither,
-            place: if kind.has_place() { place } else { 0 },
-            letter: if kind.has_letter() { letter } else { 0 },
         }
     }
 
@@ -35,14 +31,14 @@ impl Fault {
     pub fn no_state() -> Fault
         ensures { result ≡ no_state }
     {
-        Fault::new(FaultKind::NoSuchState, Layer::Rule, 0, 0)
+        Fault::new(FaultKind::NoSuchState, Layer::Rule)
     }
 
     // The refusal of a letter that is not there. A walk names its position, and else it is 0.
     pub fn no_letter(position: usize) -> Fault
         ensures { result ≡ no_letter position }
     {
-        Fault::new(FaultKind::NoSuchLetter, Layer::Rule, position, 0)
+        Fault::new(FaultKind::NoSuchLetter { position }, Layer::Rule)
     }
 
     // The same refusal on a side.
@@ -57,8 +53,5 @@ impl Fault {
 pub fn on_side<T>(answer: Result<T, Fault>, side: Side) -> Result<T, Fault>
     ensures { result ≡ sided_answer side answer }
 {
-    match answer {
-        Ok(value) => Ok(value),
-        Err(fault) => Err(fault.on(side)),
-    }
+    answer.map_err(|fault| fault.on(side))
 }

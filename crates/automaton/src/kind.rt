@@ -1,47 +1,68 @@
-// The kinds of refusal.
+// The kinds of refusal, and what each of them names.
 ghost use Rattle.std.specs.Prelude.{◌≡◌};
 ghost use Rattle.automaton.specs.Faults.{row_of};
 
-// The discriminants are the numbers of the table of refusals; want of memory stands outside of it, with 0.
+// Want of memory stands outside of the table of refusals.
 #[derive(Clone, Copy, PartialEq, Eq, Debug)]
 pub enum FaultKind {
-    OutOfMemory = 0,
-    Truncated = 1,
-    WrongLength = 2,
-    TargetOutOfRange = 3,
-    PaddingSet = 4,
-    LettersDiffer = 5,
-    TooManyStates = 6,
-    NoSuchState = 7,
-    TooFewCells = 8,
-    BufferTooShort = 9,
-    NoSuchLetter = 10,
-    TooManyNfaStates = 11,
-    BadLine = 12,
+    OutOfMemory,
+    Truncated,
+    WrongLength,
+    TargetOutOfRange { state: usize, letter: usize },
+    PaddingSet,
+    LettersDiffer,
+    TooManyStates,
+    NoSuchState,
+    TooFewCells,
+    BufferTooShort,
+    NoSuchLetter { position: usize },
+    TooManyNfaStates,
+    BadLine { place: usize },
 }
 
 impl FaultKind {
-    // The number in the table of refusals.
-    pub fn number(self) -> u8
-        ensures { result ≡ (row_of self).number }
-    {
-        self as u8
-    }
-
-    // Whether the kind names a place.
-    pub(crate) fn has_place(self) -> bool
+    // The state of a table, the position in a word or the byte of a catalogue that the kind names, and else 0.
+    pub fn place(self) -> usize
         ensures { result ≡ (row_of self).place }
     {
-        matches!(
-            self,
-            FaultKind::TargetOutOfRange | FaultKind::NoSuchLetter | FaultKind::BadLine
-        )
+        match self {
+            FaultKind::TargetOutOfRange { state, .. } => state,
+            FaultKind::NoSuchLetter { position } => position,
+            FaultKind::BadLine { place } => place,
+            _ => 0,
+        }
     }
 
-    // Whether the kind names a letter.
-    pub(crate) fn has_letter(self) -> bool
+    // The letter that the kind names, and else 0.
+    pub fn letter(self) -> usize
         ensures { result ≡ (row_of self).letter }
     {
-        matches!(self, FaultKind::TargetOutOfRange)
+        match self {
+            FaultKind::TargetOutOfRange { letter, .. } => letter,
+            _ => 0,
+        }
+    }
+}
+
+// The number in the table of refusals, and 0 for want of memory.
+impl From<FaultKind> for u8 {
+    ghost from_gives = { λ kind number. number ≡ (row_of kind).number };
+
+    fn from(kind: FaultKind) -> u8 {
+        match kind {
+            FaultKind::OutOfMemory => 0,
+            FaultKind::Truncated => 1,
+            FaultKind::WrongLength => 2,
+            FaultKind::TargetOutOfRange { .. } => 3,
+            FaultKind::PaddingSet => 4,
+            FaultKind::LettersDiffer => 5,
+            FaultKind::TooManyStates => 6,
+            FaultKind::NoSuchState => 7,
+            FaultKind::TooFewCells => 8,
+            FaultKind::BufferTooShort => 9,
+            FaultKind::NoSuchLetter { .. } => 10,
+            FaultKind::TooManyNfaStates => 11,
+            FaultKind::BadLine { .. } => 12,
+        }
     }
 }

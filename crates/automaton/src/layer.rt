@@ -2,6 +2,7 @@
 ghost use Rattle.std.specs.Prelude.{◌≡◌};
 ghost use Rattle.automaton.specs.Faults.{layer_number};
 
+// The discriminants are the layers' numbers.
 #[derive(Clone, Copy, PartialEq, Eq, Debug)]
 pub enum Layer {
     Sheet = 1,
@@ -12,11 +13,10 @@ pub enum Layer {
     Catalogue = 6,
 }
 
-impl Layer {
-    // The number of the layer.
-    pub fn number(self) -> u8
-        ensures { result ≡ layer_number self }
-    {
-        self as u8
+impl From<Layer> for u8 {
+    ghost from_gives = { λ layer number. number ≡ layer_number layer };
+
+    fn from(layer: Layer) -> u8 {
+        layer as u8
     }
 }

@@ -9,7 +9,7 @@ pub mod lent;
 pub mod rule;
 pub mod side;
 pub mod size;
-pub mod spelling;
 #[cfg(test)]
 mod tests;
 pub mod walk;
+pub mod word;

@@ -2,6 +2,7 @@
 ghost use Rattle.std.specs.Prelude.{◌≡◌};
 ghost use Rattle.automaton.specs.Faults.{side_number};
 
+// The discriminants are the sides' numbers.
 #[derive(Clone, Copy, PartialEq, Eq, Debug)]
 pub enum Side {
     Neither = 0,
@@ -10,11 +11,10 @@ pub enum Side {
     Pair = 3,
 }
 
-impl Side {
-    // The number of the side.
-    pub fn number(self) -> u8
-        ensures { result ≡ side_number self }
-    {
-        self as u8
+impl From<Side> for u8 {
+    ghost from_gives = { λ side number. number ≡ side_number side };
+
+    fn from(side: Side) -> u8 {
+        side as u8
     }
 }

@@ -22,7 +22,7 @@ abbrev pub longest : ℕ
 longest = 60000
 
 abbrev pub bad_line : ℕ → Fault
-bad_line place = refusal BadLine Catalogue place 0
+bad_line place = refusal (BadLine place) Catalogue
 
 -- a lot by its number and the bytes of its mark
 abbrev pub told : Lot → LotValue

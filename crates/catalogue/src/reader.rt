@@ -36,7 +36,7 @@ impl<'a> Reader<'a> {
         let text = self.text;
         let at = self.at;
         if text.len() > LONGEST {
-            return Err(Fault::new(FaultKind::BadLine, Layer::Catalogue, LONGEST, 0));
+            return Err(Fault::new(FaultKind::BadLine { place: LONGEST }, Layer::Catalogue));
         }
         if at >= text.len() {
             return Ok(Entry::End);
@@ -51,7 +51,7 @@ impl<'a> Reader<'a> {
                     mark,
                 }))
             }
-            Err(i) => Err(Fault::new(FaultKind::BadLine, Layer::Catalogue, at + i, 0)),
+            Err(i) => Err(Fault::new(FaultKind::BadLine { place: at + i }, Layer::Catalogue)),
         }
     }
 }

@@ -16,9 +16,9 @@ fn refused_at(
     match listing.fault {
         None => Ok(None),
         Some(fault) => {
-            assert_eq!(rt; fault.kind.number(), 12);
-            assert_eq!(rt; fault.layer.number(), 6);
-            Ok(Some(fault.place))
+            assert_eq!(rt; u8::from(fault.kind), 12);
+            assert_eq!(rt; u8::from(fault.layer), 6);
+            Ok(Some(fault.kind.place()))
         }
     }
 }
@@ -66,7 +66,7 @@ fn the_reader_stays(rt: HostRuntime) -> Result<(), Fail> {
     }
     for _ in 0..2 {
         match reader.next() {
-            Err(fault) => assert_eq!(rt; fault.place, 16),
+            Err(fault) => assert_eq!(rt; fault.kind.place(), 16),
             Ok(_) => return Err(Fail::new("a refusal was to come")),
         }
     }

@@ -49,10 +49,10 @@ abbrev pub most_states : ℕ
 most_states = 4096
 
 abbrev pub letters_differ : Fault
-letters_differ = sided Pair (refusal LettersDiffer Combined 0 0)
+letters_differ = sided Pair (refusal LettersDiffer Combined)
 
 abbrev pub too_many_states : Fault
-too_many_states = sided Pair (refusal TooManyStates Combined 0 0)
+too_many_states = sided Pair (refusal TooManyStates Combined)
 
 abbrev pub fit : ℕ → ℕ → ℕ → Bool
 fit k l states = cond (k == l) (nat_le states most_states) false

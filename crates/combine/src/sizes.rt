@@ -45,10 +45,10 @@ impl Sizes {
         ensures { result ≡ fit_answer self.first.letters self.second.letters states self }
     {
         if self.first.letters != self.second.letters {
-            return Err(Fault::new(FaultKind::LettersDiffer, Layer::Combined, 0, 0).on(Side::Pair));
+            return Err(Fault::new(FaultKind::LettersDiffer, Layer::Combined).on(Side::Pair));
         }
         if states > MOST_STATES {
-            return Err(Fault::new(FaultKind::TooManyStates, Layer::Combined, 0, 0).on(Side::Pair));
+            return Err(Fault::new(FaultKind::TooManyStates, Layer::Combined).on(Side::Pair));
         }
         Ok(self)
     }

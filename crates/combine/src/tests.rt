@@ -14,7 +14,8 @@ use automaton::layer::Layer;
 use automaton::rule::Rule;
 use automaton::side::Side;
 use automaton::size::Size;
-use automaton::walk::{keeps_text, walk_text};
+use automaton::walk::{keeps, walk};
+use automaton::word::Word;
 
 // The rule that counts the letter 0 up to a number of states and begins anew, and keeps the count 0.
 #[derive(Clone, Copy)]
@@ -101,7 +102,7 @@ fn of_states(states: usize) -> Counter
 
 // The refusal of two rules.
 fn refused(kind: FaultKind) -> Result<(), Fault> {
-    Err(Fault::new(kind, Layer::Combined, 0, 0).on(Side::Pair))
+    Err(Fault::new(kind, Layer::Combined).on(Side::Pair))
 }
 
 #[test]
@@ -109,9 +110,9 @@ fn complements(rt: HostRuntime) {
     let odd = Complement::new(EVEN);
     assert_eq!(rt; odd.size(), EVEN.size());
     assert_eq!(rt; odd.kept_at(2), Err(Fault::no_state()));
-    assert_eq!(rt; keeps_text(&odd, b"ab"), Ok(true));
-    assert_eq!(rt; keeps_text(&odd, b"abba"), Ok(false));
-    assert_eq!(rt; keeps_text(&odd, b"aac"), Err(Fault::no_letter(2)));
+    assert_eq!(rt; keeps(&odd, Word::Text(b"ab")), Ok(true));
+    assert_eq!(rt; keeps(&odd, Word::Text(b"abba")), Ok(false));
+    assert_eq!(rt; keeps(&odd, Word::Text(b"aac")), Err(Fault::no_letter(2)));
 }
 
 #[test]
@@ -130,9 +131,9 @@ fn intersections(rt: HostRuntime) {
     assert_eq!(rt; sixth.next_from(5, 2), Err(Fault::no_letter(0)));
     assert_eq!(rt; sixth.next_from(6, 2), Err(Fault::no_state()));
     assert_eq!(rt; sixth.kept_at(3), Ok(false));
-    assert_eq!(rt; keeps_text(&sixth, b"aabaaaa"), Ok(true));
-    assert_eq!(rt; keeps_text(&sixth, b"aaa"), Ok(false));
-    assert_eq!(rt; keeps_text(&sixth, b"aa"), Ok(false));
+    assert_eq!(rt; keeps(&sixth, Word::Text(b"aabaaaa")), Ok(true));
+    assert_eq!(rt; keeps(&sixth, Word::Text(b"aaa")), Ok(false));
+    assert_eq!(rt; keeps(&sixth, Word::Text(b"aa")), Ok(false));
 }
 
 #[test]
@@ -179,8 +180,8 @@ fn unions(rt: HostRuntime) {
     assert_eq!(rt; both.kept_at(2), Ok(true));
     assert_eq!(rt; both.kept_at(3), Ok(false));
     assert_eq!(rt; both.kept_at(5), Err(Fault::no_state()));
-    assert_eq!(rt; walk_text(&both, 3, b"aba"), Ok(2));
-    assert_eq!(rt; keeps_text(&both, b"aa"), Ok(true));
+    assert_eq!(rt; walk(&both, 3, Word::Text(b"aba")), Ok(2));
+    assert_eq!(rt; keeps(&both, Word::Text(b"aa")), Ok(true));
 }
 
 // Odd counts that are a multiple of three and not of five: by complement, intersection, and difference.
@@ -196,11 +197,11 @@ fn three_layers(rt: HostRuntime) {
             letters: 2,
         }
     );
-    assert_eq!(rt; keeps_text(&nest, b"aaab"), Ok(true));
-    assert_eq!(rt; keeps_text(&nest, b"aaaaaaaaa"), Ok(true));
-    assert_eq!(rt; keeps_text(&nest, b"aaaaaaaaaaaaaaa"), Ok(false));
-    assert_eq!(rt; keeps_text(&nest, b"aaaaaa"), Ok(false));
-    assert_eq!(rt; keeps_text(&nest, b"a"), Ok(false));
+    assert_eq!(rt; keeps(&nest, Word::Text(b"aaab")), Ok(true));
+    assert_eq!(rt; keeps(&nest, Word::Text(b"aaaaaaaaa")), Ok(true));
+    assert_eq!(rt; keeps(&nest, Word::Text(b"aaaaaaaaaaaaaaa")), Ok(false));
+    assert_eq!(rt; keeps(&nest, Word::Text(b"aaaaaa")), Ok(false));
+    assert_eq!(rt; keeps(&nest, Word::Text(b"a")), Ok(false));
 }
 
 // Two rules that do not fit are the blank rule, within other combinations too.
@@ -208,16 +209,16 @@ fn three_layers(rt: HostRuntime) {
 fn misfits(rt: HostRuntime) {
     let misfit = Intersection::new(EVEN, NARROW);
     assert_eq!(rt; misfit.size(), Blank.size());
-    assert_eq!(rt; keeps_text(&misfit, b""), Ok(false));
+    assert_eq!(rt; keeps(&misfit, Word::Text(b"")), Ok(false));
     let all = Complement::new(misfit);
-    assert_eq!(rt; keeps_text(&all, b"aaa"), Ok(true));
-    assert_eq!(rt; keeps_text(&all, b"b"), Err(Fault::no_letter(0)));
+    assert_eq!(rt; keeps(&all, Word::Text(b"aaa")), Ok(true));
+    assert_eq!(rt; keeps(&all, Word::Text(b"b")), Err(Fault::no_letter(0)));
     let inner = Intersection::new(all, NARROW);
     assert_eq!(rt; inner.fits(), Ok(()));
-    assert_eq!(rt; keeps_text(&inner, b"aa"), Ok(true));
-    assert_eq!(rt; keeps_text(&inner, b"aaa"), Ok(false));
+    assert_eq!(rt; keeps(&inner, Word::Text(b"aa")), Ok(true));
+    assert_eq!(rt; keeps(&inner, Word::Text(b"aaa")), Ok(false));
     let outer = DisjointUnion::new(all, EVEN);
     assert_eq!(rt; outer.fits(), refused(FaultKind::LettersDiffer));
     assert_eq!(rt; outer.size(), Blank.size());
-    assert_eq!(rt; keeps_text(&outer, b"a"), Ok(false));
+    assert_eq!(rt; keeps(&outer, Word::Text(b"a")), Ok(false));
 }

@@ -18,10 +18,10 @@ pub record Passed (short whole : Bool) (stray : Option Fault) (clear : Bool) : T
 
 pub passed : (short whole : Bool) (stray : Option Fault) (clear : Bool) → chain short whole stray clear ≡ None → Passed short whole stray clear
 unfolding chain
-passed true w s c e = let z : ◌≡◌ {A = ℕ} 0 1 = cc in absurd (omega arith)
-passed false false s c e = let z : ◌≡◌ {A = ℕ} 0 1 = cc in absurd (omega arith)
-passed false true (Some f) c e = let z : ◌≡◌ {A = ℕ} 0 1 = cc in absurd (omega arith)
-passed false true None false e = let z : ◌≡◌ {A = ℕ} 0 1 = cc in absurd (omega arith)
+passed true w s c e = absurd cc
+passed false false s c e = absurd cc
+passed false true (Some f) c e = absurd cc
+passed false true None false e = absurd cc
 passed false true None true e = record { headed = refl; right = refl; unstrayed = refl; unset = refl }
 
 pub passing : (short whole : Bool) (stray : Option Fault) (clear : Bool) → Passed short whole stray clear → chain short whole stray clear ≡ None
@@ -36,21 +36,21 @@ pub strays : (short whole : Bool) (stray : Option Fault) (clear : Bool) (p a : �
     → stray ≡ Some (strayed p a)
 unfolding chain kind_of
 strays true w s c p a e =
-    let k : ◌≡◌ {A = FaultKind} Truncated TargetOutOfRange = ap kind_of e in
-    let z : ◌≡◌ {A = ℕ} 0 1 = cc in absurd (omega arith)
+    let k : ◌≡◌ {A = FaultKind} Truncated (TargetOutOfRange p a) = ap kind_of e in
+    absurd cc
 strays false false s c p a e =
-    let k : ◌≡◌ {A = FaultKind} WrongLength TargetOutOfRange = ap kind_of e in
-    let z : ◌≡◌ {A = ℕ} 0 1 = cc in absurd (omega arith)
+    let k : ◌≡◌ {A = FaultKind} WrongLength (TargetOutOfRange p a) = ap kind_of e in
+    absurd cc
 strays false true (Some f) c p a e = e
 strays false true None false p a e =
-    let k : ◌≡◌ {A = FaultKind} PaddingSet TargetOutOfRange = ap kind_of e in
-    let z : ◌≡◌ {A = ℕ} 0 1 = cc in absurd (omega arith)
-strays false true None true p a e = let z : ◌≡◌ {A = ℕ} 0 1 = cc in absurd (omega arith)
+    let k : ◌≡◌ {A = FaultKind} PaddingSet (TargetOutOfRange p a) = ap kind_of e in
+    absurd cc
+strays false true None true p a e = absurd cc
 
 pub answered_ok : (o : Option Fault) → answered o ≡ Ok tt → o ≡ None
 answered_ok None e = refl
-answered_ok (Some f) e = let z : ◌≡◌ {A = ℕ} 0 1 = cc in absurd (omega arith)
+answered_ok (Some f) e = absurd cc
 
 pub answered_err : (o : Option Fault) (f : Fault) → answered o ≡ Err f → o ≡ Some f
-answered_err None f e = let z : ◌≡◌ {A = ℕ} 0 1 = cc in absurd (omega arith)
+answered_err None f e = absurd cc
 answered_err (Some g) f e = let x : g ≡ f = cc in ap Some x

@@ -27,8 +27,8 @@ module _ (f : ℕ → Bool) where
       go below (inr q) = rw (below q)
 
   none_or : (o : Option ℕ) (b : Bool) (n : ℕ) → or_at o b n ≡ None → (o ≡ None) × (b ≡ false)
-  none_or (Some i) b n e = let z : ◌≡◌ {A = ℕ} 0 1 = cc in absurd (omega arith)
-  none_or None true n e = let z : ◌≡◌ {A = ℕ} 0 1 = cc in absurd (omega arith)
+  none_or (Some i) b n e = absurd cc
+  none_or None true n e = absurd cc
   none_or None false n e = (refl, refl)
 
   pub none_below : (n : ℕ) → first f n ≡ None → (i : ℕ) → i < n → f i ≡ false
@@ -45,7 +45,7 @@ module _ (f : ℕ → Bool) where
   -- what is found is below the bound and passes, and nothing before it passes
   pub first_some : (n i : ℕ) → first f n ≡ Some i → Found f n i
   unfolding first
-  first_some zero i e = let z : ◌≡◌ {A = ℕ} 0 1 = cc in absurd (omega arith)
+  first_some zero i e = absurd cc
   first_some (suc n) i e = go (first f n) refl (f n) refl e (first_some n i)
     where
       go : (o : Option ℕ) → first f n ≡ o → (b : Bool) → f n ≡ b → or_at o b n ≡ Some i → (first f n ≡ Some i → Found f n i) → Found f (suc n) i
@@ -56,7 +56,7 @@ module _ (f : ℕ → Bool) where
       go None d true h g rest =
           let x : n ≡ i = cc in
           record { below = omega arith; passes = ap f (sym x) ∙ h; earlier = λ j l. none_below n d j (omega arith) }
-      go None d false h g rest = let z : ◌≡◌ {A = ℕ} 0 1 = cc in absurd (omega arith)
+      go None d false h g rest = absurd cc
 
   pub none_from : (n : ℕ) → ((i : ℕ) → i < n → f i ≡ false) → first f n ≡ None
   unfolding first

@@ -25,10 +25,10 @@ pub record Passed (short many whole clear : Bool) : Type 0 where
 
 passed : (short many whole clear : Bool) → chain short many whole clear ≡ None → Passed short many whole clear
 unfolding chain
-passed true m w c e = let z : ◌≡◌ {A = ℕ} 0 1 = cc in absurd (omega arith)
-passed false true w c e = let z : ◌≡◌ {A = ℕ} 0 1 = cc in absurd (omega arith)
-passed false false false c e = let z : ◌≡◌ {A = ℕ} 0 1 = cc in absurd (omega arith)
-passed false false true false e = let z : ◌≡◌ {A = ℕ} 0 1 = cc in absurd (omega arith)
+passed true m w c e = absurd cc
+passed false true w c e = absurd cc
+passed false false false c e = absurd cc
+passed false false true false e = absurd cc
 passed false false true true e = record { headed = refl; few = refl; right = refl; unset = refl }
 
 passing : (short many whole clear : Bool) → Passed short many whole clear → chain short many whole clear ≡ None

@@ -2,6 +2,7 @@
 use Rattle.std.proofs.Common.{◌≡◌, ℕ, ◌<◌, true, false, leb, ◌⊎◌, List, is_some, Some, None, Option, unwrap_or, sym, refl, ap, ◌∙◌, subst, inl, inr, arith}
 use Rattle.std.proofs.lemmas.Bool.{leb-false, leb-true, lt-leb}
 use Rattle.automaton.specs.declared.fault.Fault.{Fault}
+use Rattle.automaton.specs.Faults.{row_of}
 use Rattle.sheet.specs.Bits.{truncated}
 use Rattle.sheet.specs.Layout.{Closed, letter_count, next_in, state_count, stray_letter, stray_state}
 use Rattle.sheet.specs.Opening.{Stray, stray_at, stray_fault, strayed}
@@ -11,22 +12,22 @@ pub stray_named : (bs : List ℕ) (p a : ℕ) → stray_state bs ≡ Some p → 
 stray_named bs p a e f = rw (e, f)
 
 none_is : (o : Option ℕ) → is_some o ≡ false → o ≡ None
-none_is (Some x) e = let z : ◌≡◌ {A = ℕ} 0 1 = cc in absurd (omega arith)
+none_is (Some x) e = absurd cc
 none_is None e = refl
 
 some_is : (o : Option ℕ) → is_some o ≡ true → o ≡ Some (unwrap_or o 0)
 some_is (Some x) e = refl
-some_is None e = let z : ◌≡◌ {A = ℕ} 0 1 = cc in absurd (omega arith)
+some_is None e = absurd cc
 
 stray_none : (o : Option ℕ) (letter : ℕ → Option ℕ) → stray_at o letter ≡ None → o ≡ None
-stray_none (Some p) letter e = let z : ◌≡◌ {A = ℕ} 0 1 = cc in absurd (omega arith)
+stray_none (Some p) letter e = absurd cc
 stray_none None letter e = refl
 
 place_of : Option Fault → ℕ
-place_of o = (unwrap_or o truncated).place
+place_of o = (row_of (unwrap_or o truncated).kind).place
 
 letter_of : Option Fault → ℕ
-letter_of o = (unwrap_or o truncated).letter
+letter_of o = (row_of (unwrap_or o truncated).kind).letter
 
 pub record Named (o : Option ℕ) (letter : ℕ → Option ℕ) (p a : ℕ) : Type 0 where
   pub state : o ≡ Some p
@@ -38,7 +39,7 @@ stray_some (Some q) letter p a e =
     let x : q ≡ p = ap place_of e in
     let y : unwrap_or (letter q) 0 ≡ a = ap letter_of e in
     record { state = ap Some x; its = ap (λ (n : ℕ). unwrap_or (letter n) 0) (sym x) ∙ y }
-stray_some None letter p a e = let z : ◌≡◌ {A = ℕ} 0 1 = cc in absurd (omega arith)
+stray_some None letter p a e = absurd cc
 
 module _ (bs : List ℕ) where
   -- a state that has no stray letter

@@ -28,7 +28,7 @@ abbrev pub window : List ℕ → ℕ → ℕ
 window bs q = three (slice_index bs q) (slice_index bs (q + 1)) (slice_index bs (q + 2))
 
 abbrev pub truncated : Fault
-truncated = refusal Truncated Sheet 0 0
+truncated = refusal Truncated Sheet
 
 abbrev pub field_answer : List ℕ → ℕ → ℕ → Result ℕ Fault
 field_answer bs i w = cond (nat_le (i + w) (8 * length bs)) (Ok (field bs i w)) (Err truncated)

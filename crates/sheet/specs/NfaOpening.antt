@@ -22,7 +22,7 @@ use Rattle.sheet.specs.Opening.{answered, held_after, out_of_memory, padding_set
 use Rattle.sheet.specs.Subsets.{Subsets}
 
 abbrev pub too_many_own : Fault
-too_many_own = refusal TooManyNfaStates Sheet 0 0
+too_many_own = refusal TooManyNfaStates Sheet
 
 abbrev pub nfa_fault : List ℕ → Option Fault
 nfa_fault bs =

@@ -30,16 +30,16 @@ use Rattle.sheet.specs.Bits.{truncated}
 use Rattle.sheet.specs.Layout.{drawn, letter_count, next_in, padding, sheet_bytes, state_count, stray_letter, stray_state, tabled, WellFormed}
 
 abbrev pub wrong_length : Fault
-wrong_length = refusal WrongLength Sheet 0 0
+wrong_length = refusal WrongLength Sheet
 
 abbrev pub strayed : ℕ → ℕ → Fault
-strayed p a = refusal TargetOutOfRange Sheet p a
+strayed p a = refusal (TargetOutOfRange p a) Sheet
 
 abbrev pub padding_set : Fault
-padding_set = refusal PaddingSet Sheet 0 0
+padding_set = refusal PaddingSet Sheet
 
 abbrev pub out_of_memory : Fault
-out_of_memory = refusal OutOfMemory Sheet 0 0
+out_of_memory = refusal OutOfMemory Sheet
 
 abbrev pub stray_at : Option ℕ → (ℕ → Option ℕ) → Option Fault
 stray_at (Some p) letter = Some (strayed p (unwrap_or (letter p) 0))

@@ -38,7 +38,7 @@ fn has_room(bytes: &[u8], at: usize, width: Width) -> bool
 fn no_room() -> Fault
     ensures { result ≡ truncated }
 {
-    Fault::new(FaultKind::Truncated, Layer::Sheet, 0, 0)
+    Fault::new(FaultKind::Truncated, Layer::Sheet)
 }
 
 // The field at the bit `at`; past the end every bit is 0.

@@ -18,7 +18,7 @@ fn check_targets(sheet: &[u8], size: Size) -> Result<(), Fault>
 {
     for state in 0..size.states {
         if let Some(letter) = stray_letter(sheet, size, state) {
-            return Err(Fault::new(FaultKind::TargetOutOfRange, Layer::Sheet, state, letter));
+            return Err(Fault::new(FaultKind::TargetOutOfRange { state, letter }, Layer::Sheet));
         }
     }
     Ok(())
@@ -32,11 +32,11 @@ pub(crate) fn first_fault(sheet: &[u8]) -> Result<(), Fault>
     let size = header(sheet);
     let end = row_start(size.letters, size.states);
     if sheet.len() != (end + 7) / 8 {
-        return Err(Fault::new(FaultKind::WrongLength, Layer::Sheet, 0, 0));
+        return Err(Fault::new(FaultKind::WrongLength, Layer::Sheet));
     }
     check_targets(sheet, size)?;
     if read_bits(sheet, end, Width::of((8 * sheet.len() - end) as u32)) != 0 {
-        return Err(Fault::new(FaultKind::PaddingSet, Layer::Sheet, 0, 0));
+        return Err(Fault::new(FaultKind::PaddingSet, Layer::Sheet));
     }
     Ok(())
 }

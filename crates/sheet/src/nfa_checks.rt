@@ -17,14 +17,14 @@ pub(crate) fn nfa_first_fault(sheet: &[u8]) -> Result<(), Fault>
     read_field(sheet, 0, Width::of(8))?;
     let counts = read_counts(sheet);
     if counts.own > 10 {
-        return Err(Fault::new(FaultKind::TooManyNfaStates, Layer::Sheet, 0, 0));
+        return Err(Fault::new(FaultKind::TooManyNfaStates, Layer::Sheet));
     }
     let end = bit_count(counts);
     if sheet.len() != (end + 7) / 8 {
-        return Err(Fault::new(FaultKind::WrongLength, Layer::Sheet, 0, 0));
+        return Err(Fault::new(FaultKind::WrongLength, Layer::Sheet));
     }
     if read_bits(sheet, end, Width::of((8 * sheet.len() - end) as u32)) != 0 {
-        return Err(Fault::new(FaultKind::PaddingSet, Layer::Sheet, 0, 0));
+        return Err(Fault::new(FaultKind::PaddingSet, Layer::Sheet));
     }
     Ok(())
 }

@@ -50,7 +50,7 @@ impl Nfa {
     {
         nfa_first_fault(sheet)?;
         let Ok(copy) = Vec::from_slice(heap, sheet) else {
-            return Err(Fault::new(FaultKind::OutOfMemory, Layer::Sheet, 0, 0));
+            return Err(Fault::new(FaultKind::OutOfMemory, Layer::Sheet));
         };
         self.hold(copy);
         Ok(())

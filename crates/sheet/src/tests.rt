@@ -9,6 +9,7 @@ use automaton::layer::Layer;
 use automaton::rule::Rule;
 use automaton::size::Size;
 use automaton::walk::keeps;
+use automaton::word::Word;
 use std::test::Fail;
 
 // The words with an even number of the letter 0.
@@ -17,7 +18,7 @@ const EVEN: [u8; 7] = [0x10, 0x06, 0x00, 0x80, 0x00, 0x00, 0x01];
 #[test]
 fn one_state(rt: HostRuntime) {
     let mut table = Table::blank(rt.alloc());
-    assert_eq!(rt; keeps(&table, &[0]), Ok(false));
+    assert_eq!(rt; keeps(&table, Word::Numbers(&[0])), Ok(false));
     assert_eq!(rt; table.open(rt.alloc(), &[0x00, 0x02, 0x00, 0x00]), Ok(()));
     assert_eq!(rt;
         table.size(),
@@ -26,17 +27,20 @@ fn one_state(rt: HostRuntime) {
             letters: 1,
         }
     );
-    assert_eq!(rt; keeps(&table, &[]), Ok(true));
-    assert_eq!(rt; keeps(&table, &[0, 0, 0]), Ok(true));
-    assert_eq!(rt; keeps(&table, &[1]), Err(Fault::no_letter(0)));
+    assert_eq!(rt; keeps(&table, Word::Numbers(&[])), Ok(true));
+    assert_eq!(rt; keeps(&table, Word::Numbers(&[0, 0, 0])), Ok(true));
+    assert_eq!(rt;
+        keeps(&table, Word::Numbers(&[1])),
+        Err(Fault::no_letter(0))
+    );
 }
 
 #[test]
 fn even(rt: HostRuntime) {
     let mut table = Table::blank(rt.alloc());
     assert_eq!(rt; table.open(rt.alloc(), &EVEN), Ok(()));
-    assert_eq!(rt; keeps(&table, &[0, 1, 0, 1]), Ok(true));
-    assert_eq!(rt; keeps(&table, &[0, 1, 1]), Ok(false));
+    assert_eq!(rt; keeps(&table, Word::Numbers(&[0, 1, 0, 1])), Ok(true));
+    assert_eq!(rt; keeps(&table, Word::Numbers(&[0, 1, 1])), Ok(false));
     assert_eq!(rt; table.kept_at(2), Err(Fault::no_state()));
     assert_eq!(rt; table.next_from(1, 2), Err(Fault::no_letter(0)));
 }
@@ -48,23 +52,35 @@ fn refused(rt: HostRuntime) {
     assert_eq!(rt; table.open(heap, &EVEN), Ok(()));
     assert_eq!(rt;
         table.open(heap, &[0x00]),
-        Err(Fault::new(FaultKind::Truncated, Layer::Sheet, 0, 0))
+        Err(Fault::new(FaultKind::Truncated, Layer::Sheet))
     );
     assert_eq!(rt;
         table.open(heap, &[0x00, 0x02, 0x00]),
-        Err(Fault::new(FaultKind::WrongLength, Layer::Sheet, 0, 0))
+        Err(Fault::new(FaultKind::WrongLength, Layer::Sheet))
     );
     assert_eq!(rt;
         table.open(heap, &[0x00, 0x02, 0x00, 0x81]),
-        Err(Fault::new(FaultKind::TargetOutOfRange, Layer::Sheet, 0, 0))
+        Err(Fault::new(
+            FaultKind::TargetOutOfRange {
+                state: 0,
+                letter: 0
+            },
+            Layer::Sheet
+        ))
     );
     assert_eq!(rt;
         table.open(heap, &[0x10, 0x06, 0x00, 0x80, 0x00, 0x00, 0x02]),
-        Err(Fault::new(FaultKind::TargetOutOfRange, Layer::Sheet, 1, 1))
+        Err(Fault::new(
+            FaultKind::TargetOutOfRange {
+                state: 1,
+                letter: 1
+            },
+            Layer::Sheet
+        ))
     );
     assert_eq!(rt;
         table.open(heap, &[0x00, 0x02, 0x00, 0x01]),
-        Err(Fault::new(FaultKind::PaddingSet, Layer::Sheet, 0, 0))
+        Err(Fault::new(FaultKind::PaddingSet, Layer::Sheet))
     );
     assert_eq!(rt;
         table.size(),
@@ -73,7 +89,7 @@ fn refused(rt: HostRuntime) {
             letters: 2,
         }
     );
-    assert_eq!(rt; keeps(&table, &[0, 0]), Ok(true));
+    assert_eq!(rt; keeps(&table, Word::Numbers(&[0, 0])), Ok(true));
 }
 
 #[test]
@@ -91,11 +107,11 @@ fn written(rt: HostRuntime) {
     assert_eq!(rt; read_field(&sheet, 14, Width::of(11)), Ok(1025));
     assert_eq!(rt;
         write_field(&mut sheet, 50, Width::of(7), 0),
-        Err(Fault::new(FaultKind::Truncated, Layer::Sheet, 0, 0))
+        Err(Fault::new(FaultKind::Truncated, Layer::Sheet))
     );
     assert_eq!(rt;
         write_field(&mut sheet, usize::MAX, Width::of(1), 0),
-        Err(Fault::new(FaultKind::Truncated, Layer::Sheet, 0, 0))
+        Err(Fault::new(FaultKind::Truncated, Layer::Sheet))
     );
     assert_eq!(rt; sheet, EVEN);
 }
@@ -133,8 +149,8 @@ fn largest(rt: HostRuntime) -> Result<(), Fail> {
         }
     );
     assert_eq!(rt; table.next_from(1023, 15), Ok(1023));
-    assert_eq!(rt; keeps(&table, &[]), Ok(false));
-    assert_eq!(rt; keeps(&table, &[15, 0]), Ok(true));
+    assert_eq!(rt; keeps(&table, Word::Numbers(&[])), Ok(false));
+    assert_eq!(rt; keeps(&table, Word::Numbers(&[15, 0])), Ok(true));
     Ok(())
 }
 
@@ -155,7 +171,7 @@ fn one_word(rt: HostRuntime) {
             letters: 1,
         }
     );
-    assert_eq!(rt; keeps(&nfa, &[0]), Ok(false));
+    assert_eq!(rt; keeps(&nfa, Word::Numbers(&[0])), Ok(false));
     assert_eq!(rt; nfa.open(rt.alloc(), &ONE_A), Ok(()));
     assert_eq!(rt;
         nfa.size(),
@@ -165,10 +181,10 @@ fn one_word(rt: HostRuntime) {
         }
     );
     assert_eq!(rt; nfa.start_state(), 2);
-    assert_eq!(rt; keeps(&nfa, &[]), Ok(false));
-    assert_eq!(rt; keeps(&nfa, &[0]), Ok(true));
-    assert_eq!(rt; keeps(&nfa, &[0, 0]), Ok(false));
-    assert_eq!(rt; keeps(&nfa, &[1]), Err(Fault::no_letter(0)));
+    assert_eq!(rt; keeps(&nfa, Word::Numbers(&[])), Ok(false));
+    assert_eq!(rt; keeps(&nfa, Word::Numbers(&[0])), Ok(true));
+    assert_eq!(rt; keeps(&nfa, Word::Numbers(&[0, 0])), Ok(false));
+    assert_eq!(rt; keeps(&nfa, Word::Numbers(&[1])), Err(Fault::no_letter(0)));
 }
 
 #[test]
@@ -183,8 +199,8 @@ fn joined(rt: HostRuntime) {
     assert_eq!(rt; nfa.kept_at(6), Ok(false));
     assert_eq!(rt; nfa.kept_at(8), Err(Fault::no_state()));
     assert_eq!(rt; nfa.next_from(7, 2), Err(Fault::no_letter(0)));
-    assert_eq!(rt; keeps(&nfa, &[1, 0, 1]), Ok(true));
-    assert_eq!(rt; keeps(&nfa, &[0, 1, 1]), Ok(false));
+    assert_eq!(rt; keeps(&nfa, Word::Numbers(&[1, 0, 1])), Ok(true));
+    assert_eq!(rt; keeps(&nfa, Word::Numbers(&[0, 1, 1])), Ok(false));
 }
 
 // With one letter and one own state there are 11 bits and 5 of filling: 0000 0000, start 1, kept 1, to 1, filling 00000.
@@ -195,23 +211,23 @@ fn nfa_refused(rt: HostRuntime) {
     assert_eq!(rt; nfa.open(heap, &[0x00, 0xe0]), Ok(()));
     assert_eq!(rt;
         nfa.open(heap, &[]),
-        Err(Fault::new(FaultKind::Truncated, Layer::Sheet, 0, 0))
+        Err(Fault::new(FaultKind::Truncated, Layer::Sheet))
     );
     assert_eq!(rt;
         nfa.open(heap, &[0x0a]),
-        Err(Fault::new(FaultKind::TooManyNfaStates, Layer::Sheet, 0, 0))
+        Err(Fault::new(FaultKind::TooManyNfaStates, Layer::Sheet))
     );
     assert_eq!(rt;
         nfa.open(heap, &[0x01, 0x94, 0x00]),
-        Err(Fault::new(FaultKind::WrongLength, Layer::Sheet, 0, 0))
+        Err(Fault::new(FaultKind::WrongLength, Layer::Sheet))
     );
     assert_eq!(rt;
         nfa.open(heap, &[0x00, 0xf0]),
-        Err(Fault::new(FaultKind::PaddingSet, Layer::Sheet, 0, 0))
+        Err(Fault::new(FaultKind::PaddingSet, Layer::Sheet))
     );
     assert_eq!(rt;
         nfa.open(heap, &[0x00, 0xe1]),
-        Err(Fault::new(FaultKind::PaddingSet, Layer::Sheet, 0, 0))
+        Err(Fault::new(FaultKind::PaddingSet, Layer::Sheet))
     );
     assert_eq!(rt;
         nfa.size(),
@@ -220,7 +236,7 @@ fn nfa_refused(rt: HostRuntime) {
             letters: 1,
         }
     );
-    assert_eq!(rt; keeps(&nfa, &[0, 0]), Ok(true));
+    assert_eq!(rt; keeps(&nfa, Word::Numbers(&[0, 0])), Ok(true));
 }
 
 // 10 own states and 16 letters: 1,628 bits. Own states 0 and 9 lead to 9 under the letter 15, and nothing else leads on.
@@ -245,7 +261,7 @@ fn nfa_largest(rt: HostRuntime) -> Result<(), Fail> {
         }
     );
     assert_eq!(rt; nfa.next_from(1023, 15), Ok(1));
-    assert_eq!(rt; keeps(&nfa, &[15, 15]), Ok(true));
-    assert_eq!(rt; keeps(&nfa, &[15, 14]), Ok(false));
+    assert_eq!(rt; keeps(&nfa, Word::Numbers(&[15, 15])), Ok(true));
+    assert_eq!(rt; keeps(&nfa, Word::Numbers(&[15, 14])), Ok(false));
     Ok(())
 }

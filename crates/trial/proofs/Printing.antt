@@ -9,12 +9,12 @@ use Rattle.sheet.specs.Opening.{Opened, answered, fault_of, held_after}
 use Rattle.trial.specs.Reports.{NfaPrinted, Printed, PrintedBy, Sale, refused_text}
 
 faulty : (o : Option Fault) (f : Fault) → answered o ≡ Err f → o ≡ Some f
-faulty None f e = let z : ◌≡◌ {A = ℕ} 0 1 = cc in absurd (omega arith)
+faulty None f e = absurd cc
 faulty (Some g) f e = cc
 
 faultless : (o : Option Fault) → answered o ≡ Ok tt → o ≡ None
 faultless None e = refl
-faultless (Some g) e = let z : ◌≡◌ {A = ℕ} 0 1 = cc in absurd (omega arith)
+faultless (Some g) e = absurd cc
 
 -- for any kind of sheet: by its first fault, and by what the bytes of a sheet mean
 module _ (fault : Option Fault) (means : List ℕ → Automaton) (sheet text old new before out : List ℕ) (rule : Automaton) (r : Result (Unit {0}) Fault)

@@ -16,11 +16,10 @@
 use Rattle.std.specs.Prelude.{◌≡◌, ℕ, ◌+◌, Bool, true, false, List, [], ◌++◌, Some, None, Ok, Err, vec_items, codes, decimal, sum_by, Option, Result}
 use Rattle.std.specs.List.{flat_map}
 use Rattle.automaton.specs.declared.fault.Fault.{Fault}
-use Rattle.automaton.specs.declared.spelling.Spelling.TheVariants.{Text}
 use Rattle.automaton.specs.Automata.{Automaton}
 use Rattle.automaton.specs.Faults.{row_of}
 use Rattle.automaton.specs.Languages.{keeps_answer}
-use Rattle.automaton.specs.Words.{spelled}
+use Rattle.automaton.specs.Words.{of_text}
 use Rattle.catalogue.specs.Lines.{LotValue}
 use Rattle.catalogue.specs.Listing.{Listed}
 use Rattle.sheet.specs.Layout.{tabled}
@@ -32,12 +31,12 @@ use Rattle.trial.specs.declared.buyer.Buyer.TheVariants.{Table, Nfa}
 use Rattle.trial.specs.declared.tally.Tally.{Tally}
 
 abbrev pub answer_to : Automaton → LotValue → Result Bool Fault
-answer_to m lot = keeps_answer m (spelled Text lot.mark)
+answer_to m lot = keeps_answer m (of_text lot.mark)
 
 abbrev pub outcome : Result Bool Fault → List ℕ
 outcome (Ok true) = codes "kept"
 outcome (Ok false) = codes "dropped"
-outcome (Err f) = codes "unknown letter at " ++ decimal f.place
+outcome (Err f) = codes "unknown letter at " ++ decimal (row_of f.kind).place
 
 abbrev pub lot_text : LotValue → Result Bool Fault → List ℕ
 lot_text lot answer = (codes "LOT " ++ (decimal lot.number ++ codes " ")) ++ (lot.mark ++ (codes " " ++ (outcome answer ++ codes "\n")))
@@ -77,7 +76,7 @@ refused_text f = codes "refused " ++ (decimal (row_of f.kind).number ++ codes "\
 
 abbrev pub ended_text : Option Fault → List ℕ
 ended_text None = []
-ended_text (Some f) = codes "refused " ++ (decimal (row_of f.kind).number ++ (codes " at " ++ (decimal f.place ++ codes "\n")))
+ended_text (Some f) = codes "refused " ++ (decimal (row_of f.kind).number ++ (codes " at " ++ (decimal (row_of f.kind).place ++ codes "\n")))
 
 abbrev pub sale_text : Automaton → List LotValue → Option Fault → List ℕ
 sale_text m lots fault = (lots_text m lots ++ ended_text fault) ++ sum_text (tally_of m lots)

@@ -15,7 +15,7 @@ fn outcome_text(heap: Global, answer: Result<bool, Fault>) -> Result<String, All
     match answer {
         Ok(true) => String::from_str(heap, "kept"),
         Ok(false) => String::from_str(heap, "dropped"),
-        Err(fault) => unknown_text(heap, fault.place),
+        Err(fault) => unknown_text(heap, fault.kind.place()),
     }
 }
 
@@ -92,7 +92,7 @@ pub fn write_sum(heap: Global, out: &mut Vec<u8>, tally: Tally) -> Result<(), Al
 pub fn write_refused(heap: Global, out: &mut Vec<u8>, fault: Fault) -> Result<(), AllocError>
     ensures { OnOk result (out.new.items ≡ out.old.items ++ refused_text fault) }
 {
-    let number = fault.kind.number();
+    let number = u8::from(fault.kind);
     let line = format!(in heap; "refused {number}\n")?;
     out.extend_from_slice(line.as_bytes())
 }
@@ -104,8 +104,8 @@ pub fn write_end(heap: Global, out: &mut Vec<u8>, fault: Option<Fault>) -> Resul
     let Some(fault) = fault else {
         return Ok(());
     };
-    let number = fault.kind.number();
-    let place = fault.place;
+    let number = u8::from(fault.kind);
+    let place = fault.kind.place();
     let line = format!(in heap; "refused {number} at {place}\n")?;
     out.extend_from_slice(line.as_bytes())
 }

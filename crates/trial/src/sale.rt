@@ -8,7 +8,8 @@ use crate::buyer::Buyer;
 use crate::report::{write_end, write_lot, write_refused, write_sum};
 use crate::tally::Tally;
 use automaton::rule::Rule;
-use automaton::walk::keeps_text;
+use automaton::walk::keeps;
+use automaton::word::Word;
 use catalogue::entry::Lot;
 use catalogue::listing::list_lots;
 use sheet::nfa::Nfa;
@@ -32,7 +33,7 @@ fn write_lots<R: Rule>(
         unknown: 0,
     };
     for lot in lots {
-        let answer = keeps_text(rule, lot.mark);
+        let answer = keeps(rule, Word::Text(lot.mark));
         write_lot(heap, out, lot, answer)?;
         tally = tally.with(answer);
     }

@@ -9,32 +9,32 @@ use Rattle.automaton.proofs.walk.follow.Goals as goal
 pub returns-in-Err : goal.returns-in-Err
 returns-in-Err g c =
     let m = meaning g.R.Rule c.args.rule.now in
-    let s = c.args.spelling in
-    let bytes = c.args.bytes.now in
+    let w = spelled c.args.word in
+    let of = c.bytes-byte-items.ensures in
     let i = c.loop-i.i in
     let there = ap (λ (z : Size). z.states) c.size.ensures in
     let past = next_refused m c.loop-i.state c.letter.result c.in-Err.field-0 c.loop-i.invariant.0 c.in-Err.ensures in
-    let letter : m.letters ≤ get_or (spelled s bytes) i 0 = omega (arith, past, c.letter.ensures, spelled_at s bytes i c.loop-i-test.true) in
-    let stop = walk_stops m (spelled s bytes) i c.loop-i.state (omega (arith, spelled_length s bytes)) letter in
-    ap Err c.no_letter.ensures ∙ sym stop ∙ c.loop-i.invariant.1 ∙ sym (walk_starts m (spelled s bytes) c.args.from (omega (arith, there)))
+    let letter : m.letters ≤ get_or w i 0 = omega (arith, past, c.letter.ensures, spelled_at c.args.word _ of i c.loop-i-test.true) in
+    let stop = walk_stops m w i c.loop-i.state (omega (arith, spelled_length c.args.word _ of)) letter in
+    ap Err c.no_letter.ensures ∙ sym stop ∙ c.loop-i.invariant.1 ∙ sym (walk_starts m w c.args.from (omega (arith, there)))
 
 pub loop-i-preserved : goal.loop-i-preserved
 loop-i-preserved g c =
     let m = meaning g.R.Rule c.args.rule.now in
-    let s = c.args.spelling in
-    let bytes = c.args.bytes.now in
+    let w = spelled c.args.word in
+    let of = c.bytes-byte-items.ensures in
     let i = c.loop-i.i in
-    let same : c.letter.result ≡ get_or (spelled s bytes) i 0 = c.letter.ensures ∙ sym (spelled_at s bytes i c.loop-i-test.true) in
+    let same : c.letter.result ≡ get_or w i 0 = c.letter.ensures ∙ sym (spelled_at c.args.word _ of i c.loop-i-test.true) in
     let step = next_told m c.loop-i.state c.letter.result c.in-Ok.to c.in-Ok.ensures in
-    let on = walk_more m (spelled s bytes) i c.loop-i.state (omega (arith, spelled_length s bytes)) (omega (arith, step.letter)) in
-    let to : c.in-Ok.to ≡ m.next c.loop-i.state (get_or (spelled s bytes) i 0) = step.is ∙ ap (m.next c.loop-i.state) same in
+    let on = walk_more m w i c.loop-i.state (omega (arith, spelled_length c.args.word _ of)) (omega (arith, step.letter)) in
+    let to : c.in-Ok.to ≡ m.next c.loop-i.state (get_or w i 0) = step.is ∙ ap (m.next c.loop-i.state) same in
     (next_below m c.loop-i.state c.letter.result c.in-Ok.to (g.R.Rule.bounds c.args.rule.now) c.in-Ok.ensures, rw to (sym on ∙ c.loop-i.invariant.1))
 
 pub returns : goal.returns
 returns g c =
     let m = meaning g.R.Rule c.args.rule.now in
-    let w = spelled c.args.spelling c.args.bytes.now in
+    let w = spelled c.args.word in
     let there = ap (λ (z : Size). z.states) c.size.ensures in
     let start = walk_starts m w c.args.from (omega (arith, there)) in
-    let end : length w ≤ c.loop-i.i = omega (arith, spelled_length c.args.spelling c.args.bytes.now) in
+    let end : length w ≤ c.loop-i.i = omega (arith, spelled_length c.args.word _ c.bytes-byte-items.ensures) in
     sym (walk_ends m w c.loop-i.i c.loop-i.state end) ∙ c.loop-i.invariant.1 ∙ sym start

@@ -18,10 +18,10 @@ loop-lot-preserved g c =
     let i = c.loop-lot.lot-index in
     let inv = c.loop-lot.invariant in
     let with = c.with-tally.ensures in
-    let answer = c.keeps_text-answer.ensures.answer in (
-      text_more m lots i no_lot c.loop-lot-test.true (vec_items c.args.out.now) (vec_items c.loop-lot.out) (vec_items c.write_lot.new.out) c.keeps_text-answer.result answer inv.0 c.in_ok-write_lot.ensures,
-      tally_more m lots i no_lot c.loop-lot-test.true c.loop-lot.tally c.with-tally.result c.keeps_text-answer.result answer inv.1 with.kept with.dropped with.unknown,
-      sum_more c.loop-lot.tally c.with-tally.result c.keeps_text-answer.result i inv.2 with.kept with.dropped with.unknown,
+    let answer = c.keeps-answer.ensures.answer in (
+      text_more m lots i no_lot c.loop-lot-test.true (vec_items c.args.out.now) (vec_items c.loop-lot.out) (vec_items c.write_lot.new.out) c.keeps-answer.result answer inv.0 c.in_ok-write_lot.ensures,
+      tally_more m lots i no_lot c.loop-lot-test.true c.loop-lot.tally c.with-tally.result c.keeps-answer.result answer inv.1 with.kept with.dropped with.unknown,
+      sum_more c.loop-lot.tally c.with-tally.result c.keeps-answer.result i inv.2 with.kept with.dropped with.unknown,
     )
 
 pub returns : goal.returns
