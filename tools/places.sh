@@ -1,8 +1,8 @@
 #!/bin/sh
-# Lists the places of each point of docs/DESIGN-PASS.md in the source of a commit, or of the index where none is named.
+# Lists the places of each point of docs/DESIGN-PASS.md in the source of a commit, or of the last one where none is named.
 # Usage: tools/places.sh [COMMIT]
 cd "$(dirname "$0")/.." || exit 1
-tree=${1:---cached}
+tree=${1:-HEAD}
 src='crates/*/src/*.rt'
 tests=':!crates/*/src/tests.rt'
 places() {
@@ -10,11 +10,11 @@ places() {
     shift
     git grep -nE "$@" | sed "s/^$tree://"
 }
-places '1: enums' '\benum ' "$tree" -- "$src"
-places '1: flags, and numbers for refusals' 'has_(place|letter)|-> Result<[A-Za-z]+, usize>|=> 16,|NO_LETTER' "$tree" -- "$src"
+places '1: enums' '^\s*(pub(\([a-z]+\))? )?enum ' "$tree" -- "$src"
+places '1: flags, and numbers for refusals' 'has_(place|letter)|-> Result<[A-Za-z]+(<[^>]*>)?, usize>|=> 16,|NO_LETTER' "$tree" -- "$src"
 echo '== 2: function names that stand more than once, when a word for the kind of sheet or of bytes is left out'
 git grep -hoE '\bfn [a-z_]+' "$tree" -- "$src" | sed 's/fn nfa_/fn /; s/_nfa\b//; s/_text\b//; s/_numbers\b//; s/_spelled\b//; s/_copy\b//' | sort | uniq -c | sort -rn | awk '$1 > 1'
-places '3: loops' '^\s*(while|loop|for)\b' "$tree" -- "$src"
+places '3: loops' '^\s*(let [a-z ]+ = )?(while|loop|for)\b' "$tree" -- "$src"
 places '4: conversions' 'fn (number|on_side|bits|of|empty|apart|letter|from|try_from)\b| as u(8|16|32|64|size)' "$tree" -- "$src" "$tests"
 places '4: printing' 'format!|write!|Display' "$tree" -- "$src"
 echo '== 5: clauses that stand in three or more contracts'

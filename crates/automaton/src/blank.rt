@@ -8,6 +8,7 @@ use crate::size::Size;
 #[derive(Clone, Copy, PartialEq, Eq, Debug)]
 pub struct Blank;
 
+// Each kind of rule refuses a state and a letter by these two tests of its own: each is one `if` and answers its own refusal.
 impl Rule for Blank {
     ghost count = { λ _. blank.count };
 

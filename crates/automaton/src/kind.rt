@@ -21,7 +21,8 @@ pub enum FaultKind {
 }
 
 impl FaultKind {
-    // The state of a table, the position in a word or the byte of a catalogue that the kind names, and else 0.
+    // The state of a table, the position in a word or the byte of a catalogue that the kind names, and else 0: the table of refusals has 0
+    // there, and whoever passes a refusal on hands on that number.
     pub fn place(self) -> usize
         ensures { result ≡ (row_of self).place }
     {
@@ -33,7 +34,7 @@ impl FaultKind {
         }
     }
 
-    // The letter that the kind names, and else 0.
+    // The letter that the kind names, and else 0, as for a place.
     pub fn letter(self) -> usize
         ensures { result ≡ (row_of self).letter }
     {

@@ -9,6 +9,7 @@ use crate::rule::Rule;
 use crate::word::Word;
 
 // The state where the walk of a word from a state ends.
+#[tactic(auto, using(crate::proofs::Textbook::rule_walked))]
 pub fn walk<R: Rule>(rule: &R, from: usize, word: Word<'_>) -> Result<usize, Fault>
     ensures { Walked (meaning R.Rule rule.now) from (spelled word.entry) result }
 {
@@ -16,6 +17,7 @@ pub fn walk<R: Rule>(rule: &R, from: usize, word: Word<'_>) -> Result<usize, Fau
 }
 
 // Whether a rule keeps a word.
+#[tactic(auto, using(crate::proofs::Textbook::rule_judged))]
 pub fn keeps<R: Rule>(rule: &R, word: Word<'_>) -> Result<bool, Fault>
     ensures { Judged (meaning R.Rule rule.now) (spelled word.entry) result }
 {
@@ -23,6 +25,7 @@ pub fn keeps<R: Rule>(rule: &R, word: Word<'_>) -> Result<bool, Fault>
 }
 
 // Takes the next state for each letter in turn. The first letter that is not there is refused by its position.
+#[tactic(auto, using(crate::proofs::Walks::walk_on))]
 fn follow<R: Rule>(rule: &R, from: usize, word: Word<'_>) -> Result<usize, Fault>
     ensures { result ≡ walk_answer (meaning R.Rule rule.now) from (spelled word.entry) }
 {
@@ -30,6 +33,7 @@ fn follow<R: Rule>(rule: &R, from: usize, word: Word<'_>) -> Result<usize, Fault
         return Err(Fault::no_state());
     }
     let mut state = from;
+    // A `for` over the bytes with their index, by a rule of the project (docs/DECISIONS.md, "Forms of code").
     for (i, byte) in word.bytes().iter().enumerate() {
         match rule.next_from(state, word.letter(*byte)) {
             Ok(to) => state = to,

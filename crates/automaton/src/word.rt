@@ -20,12 +20,13 @@ impl<'a> Word<'a> {
     }
 
     // The letter that a byte stands for. A byte of a text outside of a to p stands for 16, which no rule has.
+    // It is 16 and no `None`: a word is a row of numbers, and a rule refuses 16 as it refuses any number that is no letter of its own.
     pub fn letter(self, byte: u8) -> usize
         ensures { result ≡ letter_of self.entry byte }
     {
         match self {
-            Word::Numbers(_) => byte as usize,
-            Word::Text(_) if matches!(byte, b'a'..=b'p') => (byte - b'a') as usize,
+            Word::Numbers(_) => usize::from(byte),
+            Word::Text(_) if matches!(byte, b'a'..=b'p') => usize::from(byte - b'a'),
             Word::Text(_) => 16,
         }
     }

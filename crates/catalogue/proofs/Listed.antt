@@ -1,6 +1,7 @@
 -- The lines that were read so far, and what reading to the end gives.
 use Rattle.std.proofs.Common.{◌≡◌, ℕ, ◌+◌, ◌-◌, ◌<◌, ◌≤◌, List, [], ◌∷◌, ◌++◌, length, take, drop, Some, None, Option, sym, refl, ap, ◌∙◌, subst, inl, inr, append_assoc, append-nil, arith}
-use Rattle.std.proofs.lemmas.List.{drop-take, length-drop, length-take-le, take_all, take-append-drop, take-take}
+use Rattle.std.proofs.Math.Seq.{take-add}
+use Rattle.std.proofs.lemmas.List.{length-drop, length-take-le, take_all, take-append-drop}
 use Rattle.automaton.specs.declared.fault.Fault.{Fault}
 use Rattle.catalogue.specs.Entries.{LotAt, Refused, bad_line, longest, told}
 use Rattle.catalogue.specs.Lines.{LineOf, Lines, LotValue}
@@ -13,12 +14,8 @@ lines_more t (x ∷ lots) lot l ds (k, es, rest, g, e, more) h = (k, es, rest ++
 
 pub lines_next : (text : List ℕ) (at : ℕ) (lots : List LotValue) (lot : LotValue) (next : ℕ) (ds : List ℕ) → Lines (take at text) lots → LotAt text at lot next ds → Lines (take next text) (lots ++ lot ∷ [])
 lines_next text at lots lot next ds h l =
-    let le : at ≤ next = omega (arith, l.ends) in
-    let seam : at + (next - at) ≡ next = omega arith in
-    let whole : take at text ++ take (next - at) (drop at text) ≡ take next text =
-    ap (λ (x : List ℕ). x ++ take (next - at) (drop at text)) (sym (take-take at next text le))
-    ∙ ap (λ (x : List ℕ). take at (take next text) ++ x) (sym (drop-take at (next - at) text) ∙ ap (λ (n : ℕ). drop at (take n text)) seam)
-    ∙ take-append-drop at (take next text) in
+    let seam : at + (next - at) ≡ next = omega (arith, l.ends) in
+    let whole : take at text ++ take (next - at) (drop at text) ≡ take next text = sym (take-add at (next - at) text) ∙ ap (λ (n : ℕ). take n text) seam in
     subst (λ (x : List ℕ). Lines x (lots ++ lot ∷ [])) whole (lines_more (take at text) lots lot (take (next - at) (drop at text)) ds h l.line)
 
 -- a reading of a text that is not too long is the promised one

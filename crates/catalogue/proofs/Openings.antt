@@ -1,6 +1,8 @@
 -- A text that leaves the opening LOT and a space is stuck there.
-use Rattle.std.proofs.Common.{◌≡◌, ℕ, zero, suc, ◌-◌, ◌<◌, ◌≤◌, List, [], ◌∷◌, ◌++◌, length, get_or, take, drop, sym, refl, ap, ◌∙◌, arith, lit≤}
-use Rattle.std.proofs.lemmas.List.{get_or_append_left, get_or-take, length-take-le, take_rest}
+use Rattle.std.proofs.Common.{◌≡◌, ℕ, suc, ◌<◌, ◌≤◌, List, [], ◌∷◌, ◌++◌, length, get_or, take, drop, ◌⊎◌, inl, inr, sym, refl, ap, ◌∙◌, arith, lit≤}
+use Rattle.std.proofs.lemmas.Bool.{cases_lt}
+use Rattle.std.proofs.lemmas.Grind.{same_number_lists}
+use Rattle.std.proofs.lemmas.List.{get_or_append_left, get_or-take, length-take-le, take-append-drop, take-append-le}
 use Rattle.catalogue.specs.Lines.{Begins, Mark, Number, Stuck, line, opened}
 
 -- the shortest line, which every beginning of the opening begins
@@ -13,61 +15,43 @@ mark_a = record { some = lit≤ tt; all = (refl, tt) }
 pub begun_by : (l more : List ℕ) → l ++ more ≡ line (49 ∷ []) (97 ∷ []) → Begins l
 begun_by l more e = (more, 49 ∷ [], 97 ∷ [], record { number = one; mark = mark_a; is = e })
 
-before : (k : ℕ) → k < 4 → Begins (take k (opened []))
-before zero h = begun_by [] (opened (49 ∷ 32 ∷ 97 ∷ 10 ∷ [])) refl
-before (suc zero) h = begun_by (76 ∷ []) (79 ∷ 84 ∷ 32 ∷ 49 ∷ 32 ∷ 97 ∷ 10 ∷ []) refl
-before (suc (suc zero)) h = begun_by (76 ∷ 79 ∷ []) (84 ∷ 32 ∷ 49 ∷ 32 ∷ 97 ∷ 10 ∷ []) refl
-before (suc (suc (suc zero))) h = begun_by (76 ∷ 79 ∷ 84 ∷ []) (32 ∷ 49 ∷ 32 ∷ 97 ∷ 10 ∷ []) refl
-before (suc (suc (suc (suc k)))) h = absurd (omega arith)
+before : (k : ℕ) → k ≤ 4 → Begins (take k (opened []))
+before k h =
+    let after : List ℕ = 49 ∷ 32 ∷ 97 ∷ 10 ∷ [] in
+    begun_by (take k (opened [])) (drop k (opened after)) (ap (λ (t : List ℕ). t ++ drop k (opened after)) (sym (take-append-le k (opened []) after h)) ∙ take-append-drop k (opened after))
 
-line_opens : (k : ℕ) → k < 4 → (rest : List ℕ) → get_or (opened rest) k 0 ≡ get_or (opened []) k 0
-line_opens zero h rest = refl
-line_opens (suc zero) h rest = refl
-line_opens (suc (suc zero)) h rest = refl
-line_opens (suc (suc (suc zero))) h rest = refl
-line_opens (suc (suc (suc (suc k)))) h rest = absurd (omega arith)
+-- a text that agrees with the opening in k bytes, and leaves it there or ends
+pub record Leaves (text : List ℕ) (k : ℕ) : Type 0 where
+  pub within : k ≤ length text
+  pub few : k ≤ 4
+  pub agrees : (i : ℕ) → i < k → get_or text i 0 ≡ get_or (opened []) i 0
+  pub differs : k < length text → k < 4 → get_or text k 0 ≡ get_or (opened []) k 0 → ⊥
+  pub unopened : 4 ≤ length text → get_or text 0 0 ≡ 76 → get_or text 1 0 ≡ 79 → get_or text 2 0 ≡ 84 → get_or text 3 0 ≡ 32 → ⊥
 
-module _ (text : List ℕ) (k : ℕ) (few : k < 4) (within : k ≤ length text) (agrees : take k text ≡ take k (opened [])) (leaves : k < length text → get_or text k 0 ≡ get_or (opened []) k 0 → ⊥) where
-  stuck_before : Stuck text k
-  stuck_before = record {
-    within = within;
-    begun = rw agrees (before k few);
-    unfinished = λ ds m l. let e = ap length l.is in omega (arith, length-take-le k text within, e);
-    bad = λ h (more, ds, m, l).
-        let n : k < length (take (suc k) text) = omega (arith, length-take-le (suc k) text h) in
-        let below : k < suc k = omega arith in
-        leaves h (sym (get_or_append_left (take (suc k) text) more 0 k n ∙ get_or-take (suc k) text k 0 below)
-        ∙ ap (λ (t : List ℕ). get_or t k 0) l.is ∙ line_opens k few (ds ++ 32 ∷ (m ++ 10 ∷ [])));
-  }
+short : (text : List ℕ) (k : ℕ) → Leaves text k → k < 4
+short text k l = go (cases_lt k 4)
+  where
+    go : (k < 4) ⊎ (4 ≤ k) → k < 4
+    go (inl h) = h
+    go (inr h) = absurd (l.unopened (omega (arith, l.within)) (l.agrees 0 (omega arith)) (l.agrees 1 (omega arith)) (l.agrees 2 (omega arith)) (l.agrees 3 (omega arith)))
 
-pub stuck_at_0 : (text : List ℕ) → (0 < length text → get_or text 0 0 ≡ 76 → ⊥) → Stuck text 0
-stuck_at_0 text d = stuck_before text 0 (omega arith) (omega arith) refl d
-
-pub stuck_at_1 : (text : List ℕ) → 1 ≤ length text → get_or text 0 0 ≡ 76 → (1 < length text → get_or text 1 0 ≡ 79 → ⊥) → Stuck text 1
-stuck_at_1 [] h a d = absurd (omega arith)
-stuck_at_1 (x ∷ t) h a d = stuck_before (x ∷ t) 1 (omega arith) h (ap (λ (y : ℕ). y ∷ []) a) d
-
-pub stuck_at_2 : (text : List ℕ) → 2 ≤ length text → get_or text 0 0 ≡ 76 → get_or text 1 0 ≡ 79 → (2 < length text → get_or text 2 0 ≡ 84 → ⊥) → Stuck text 2
-stuck_at_2 [] h a b d = absurd (omega arith)
-stuck_at_2 (x ∷ []) h a b d = absurd (omega arith)
-stuck_at_2 (x ∷ y ∷ t) h a b d =
-    let e : x ∷ y ∷ [] ≡ 76 ∷ 79 ∷ [] = cc in
-    stuck_before (x ∷ y ∷ t) 2 (omega arith) h e d
-
-pub stuck_at_3 : (text : List ℕ) → 3 ≤ length text → get_or text 0 0 ≡ 76 → get_or text 1 0 ≡ 79 → get_or text 2 0 ≡ 84 → (3 < length text → get_or text 3 0 ≡ 32 → ⊥) → Stuck text 3
-stuck_at_3 [] h a b c d = absurd (omega arith)
-stuck_at_3 (x ∷ []) h a b c d = absurd (omega arith)
-stuck_at_3 (x ∷ y ∷ []) h a b c d = absurd (omega arith)
-stuck_at_3 (x ∷ y ∷ z ∷ t) h a b c d =
-    let e : x ∷ y ∷ z ∷ [] ≡ 76 ∷ 79 ∷ 84 ∷ [] = cc in
-    stuck_before (x ∷ y ∷ z ∷ t) 3 (omega arith) h e d
-
--- a text that begins with the opening is the opening and the rest
-pub is_opened : (text : List ℕ) → 4 ≤ length text → get_or text 0 0 ≡ 76 → get_or text 1 0 ≡ 79 → get_or text 2 0 ≡ 84 → get_or text 3 0 ≡ 32 → text ≡ opened (take (length text - 4) (drop 4 text))
-is_opened [] h a b c d = absurd (omega arith)
-is_opened (x ∷ []) h a b c d = absurd (omega arith)
-is_opened (x ∷ y ∷ []) h a b c d = absurd (omega arith)
-is_opened (x ∷ y ∷ z ∷ []) h a b c d = absurd (omega arith)
-is_opened (x ∷ y ∷ z ∷ w ∷ t) h a b c d =
-    let e : take (length (x ∷ y ∷ z ∷ w ∷ t) - 4) t ≡ t = take_rest (x ∷ y ∷ z ∷ w ∷ t) 4 in
-    cc
+pub stuck_leaving : (text : List ℕ) (k : ℕ) → Leaves text k → Stuck text k
+stuck_leaving text k l =
+    let below = short text k l in
+    let long : length (take k text) ≡ k = length-take-le k text l.within in
+    let opening : length (take k (opened [])) ≡ k = length-take-le k (opened []) l.few in
+    let front : take k text ≡ take k (opened []) =
+    same_number_lists (take k text) (take k (opened [])) (omega (arith, long, opening)) (λ i h.
+    let b : i < k = omega (arith, long) in
+    get_or-take k text i 0 b ∙ l.agrees i b ∙ sym (get_or-take k (opened []) i 0 b)) in
+    record {
+      within = l.within;
+      begun = rw front (before k l.few);
+      unfinished = λ ds m h. let e = ap length h.is in omega (arith, long, e);
+      bad = λ h (more, ds, m, b).
+          let n : k < length (take (suc k) text) = omega (arith, length-take-le (suc k) text h) in
+          let last : k < suc k = omega arith in
+          l.differs h below
+          (sym (get_or_append_left (take (suc k) text) more 0 k n ∙ get_or-take (suc k) text k 0 last) ∙ ap (λ (t : List ℕ). get_or t k 0) b.is
+          ∙ get_or_append_left (opened []) (ds ++ 32 ∷ (m ++ 10 ∷ [])) 0 k below);
+    }

@@ -1,7 +1,8 @@
 -- Where a text cannot go on as a lot line: a scanner that reads what follows the opening, and what it tells.
 use Rattle.std.proofs.Common.{◌≡◌, ℕ, zero, suc, ◌+◌, ◌<◌, ◌≤◌, Bool, true, false, cond, not, ◌&&◌, eqb, ltb, List, [], ◌∷◌, ◌++◌, length, get_or, take, sym, refl, ap, ◌∙◌, subst, arith, take-suc}
 use Rattle.std.proofs.lemmas.Bool.{lt-ltb, ne_eqb}
-use Rattle.std.specs.List.{AllByRecursion}
+use Rattle.std.proofs.lemmas.List.Sums.{fold-append}
+use Rattle.std.specs.List.{AllByRecursion, fold}
 use Rattle.catalogue.specs.Lines.{Begins, IsLine, Mark, Number, Stuck, digit, letter, line, opened}
 
 -- What was read after the opening: so many digits; a space and perhaps letters; the whole line; or what no line has.
@@ -20,12 +21,7 @@ step done b = dead
 step dead b = dead
 
 abbrev pub phase : Phase → List ℕ → Phase
-phase s [] = s
-phase s (b ∷ l) = phase (step s b) l
-
-pub phase_append : (s : Phase) (k l : List ℕ) → phase s (k ++ l) ≡ phase (phase s k) l
-phase_append s [] l = refl
-phase_append s (b ∷ k) l = phase_append (step s b) k l
+phase s l = fold step s l
 
 phase_dead : (l : List ℕ) → phase dead l ≡ dead
 phase_dead [] = refl
@@ -66,10 +62,10 @@ spaced (suc j) h = refl
 
 pub whole_line : (ds m : List ℕ) → Number ds → Mark m → phase (number 0) (ds ++ 32 ∷ (m ++ 10 ∷ [])) ≡ done
 whole_line ds m n k =
-    phase_append (number 0) ds (32 ∷ (m ++ 10 ∷ []))
+    fold-append step (number 0) ds (32 ∷ (m ++ 10 ∷ []))
     ∙ ap (λ (s : Phase). phase (step s 32) (m ++ 10 ∷ [])) (all_digits ds n)
     ∙ ap (λ (s : Phase). phase s (m ++ 10 ∷ [])) (spaced (length ds) n.some)
-    ∙ phase_append (mark false) m (10 ∷ []) ∙ ap (λ (s : Phase). phase s (10 ∷ [])) (all_letters m k)
+    ∙ fold-append step (mark false) m (10 ∷ []) ∙ ap (λ (s : Phase). phase s (10 ∷ [])) (all_letters m k)
 
 -- A line is read to its end, and what begins a line is not dead.
 line_done : (x ds m : List ℕ) → IsLine (opened x) ds m → phase (number 0) x ≡ done
@@ -81,10 +77,8 @@ line_done x ds m l =
 begun_lives : (x : List ℕ) → Begins (opened x) → phase (number 0) x ≡ dead → ⊥
 begun_lives x (more, ds, m, l) e =
     let f = line_done (x ++ more) ds m l in
-    let g : phase (number 0) (x ++ more) ≡ dead = phase_append (number 0) x more ∙ ap (λ (s : Phase). phase s more) e ∙ phase_dead more in
-    let h : done ≡ dead = sym f ∙ g in
-    let z : ◌≡◌ {A = ℕ} 0 1 = cc in
-    omega arith
+    let g : phase (number 0) (x ++ more) ≡ dead = fold-append step (number 0) x more ∙ ap (λ (s : Phase). phase s more) e ∙ phase_dead more in
+    cc
 
 pub take_opened : (n : ℕ) (rest : List ℕ) → take (4 + n) (opened rest) ≡ opened (take n rest)
 take_opened n rest = let e : 4 + n ≡ suc (suc (suc (suc n))) = omega arith in rw e
@@ -103,5 +97,5 @@ stuck_here x rest s front within reads undone begun next = record {
       let u : take (suc (4 + length x)) (opened rest) ≡ opened (x ++ get_or rest (length x) 0 ∷ []) =
       ap (λ (n : ℕ). take n (opened rest)) e ∙ take_opened (suc (length x)) rest ∙ ap opened t in
       begun_lives (x ++ get_or rest (length x) 0 ∷ []) (subst Begins u b)
-      (phase_append (number 0) x (get_or rest (length x) 0 ∷ []) ∙ ap (λ (p : Phase). step p (get_or rest (length x) 0)) reads ∙ next short);
+      (fold-append step (number 0) x (get_or rest (length x) 0 ∷ []) ∙ ap (λ (p : Phase). step p (get_or rest (length x) 0)) reads ∙ next short);
 }

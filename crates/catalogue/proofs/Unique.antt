@@ -1,6 +1,7 @@
 -- A text has one reading: lines are told apart, and a text that begins with a line is not stuck in it.
 use Rattle.std.proofs.Common.{◌≡◌, ℕ, suc, ◌+◌, ◌-◌, ◌<◌, ◌≤◌, Bool, true, false, ◌⊎◌, List, [], ◌∷◌, ◌++◌, length, take, drop, Some, None, Option, sym, refl, ap, ◌∙◌, subst, inl, inr, append_assoc, append-nil, arith}
 use Rattle.std.proofs.lemmas.List.{length-append, nil_from_length, take-append-drop, take-append-le, take-take}
+use Rattle.std.proofs.Math.Seq.{take-append-add}
 use Rattle.std.proofs.lemmas.Bool.{both_ways, cases_lt, cases_order}
 use Rattle.std.specs.List.{AllByRecursion}
 use Rattle.automaton.specs.declared.fault.Fault.{Fault}
@@ -38,16 +39,11 @@ same_line k l d e m n u v hk hl s =
 line_long : (l d m : List ℕ) → IsLine l d m → 0 < length l
 line_long l d m h = let e = ap length h.is in omega (arith, e)
 
-take_past : (l rest : List ℕ) (n : ℕ) → take (length l + n) (l ++ rest) ≡ l ++ take n rest
-take_past [] rest n = let e : 0 + n ≡ n = omega arith in rw e
-take_past (x ∷ l) rest n = let e : suc (length l) + n ≡ suc (length l + n) = omega arith in rw e (ap (λ (t : List ℕ). x ∷ t) (take_past l rest n))
-
 same_lots : (a b : LotValue) (k l : List LotValue) → a.number ≡ b.number → a.mark ≡ b.mark → k ≡ l → a ∷ k ≡ b ∷ l
 same_lots a b k l n m r =
-    ap (λ (x : ℕ). lot x a.mark ∷ k) n ∙ ap (λ (x : List ℕ). lot b.number x ∷ k) m ∙ ap (λ (x : List LotValue). b ∷ x) r
-  where
-    lot : ℕ → List ℕ → LotValue
-    lot x y = record { number = x; mark = y }
+    let parts : ◌≡◌ {A = LotValue} (record { number = a.number; mark = a.mark }) (record { number = b.number; mark = b.mark }) = cc in
+    let same : a ≡ b = parts in
+    cc
 
 -- what begins with a line is not stuck
 pub never_stuck : (text l d m rest : List ℕ) (i : ℕ) → text ≡ l ++ rest → IsLine l d m → Stuck text i → ⊥
@@ -64,7 +60,7 @@ never_stuck text l d m rest i e h s = go (cases_lt i (length l))
         let more = s.begun.0 in
         let part = take (i - length l) rest in
         let seam : length l + (i - length l) ≡ i = omega arith in
-        let front : take i text ≡ l ++ part = ap (take i) e ∙ ap (λ (n : ℕ). take n (l ++ rest)) (sym seam) ∙ take_past l rest (i - length l) in
+        let front : take i text ≡ l ++ part = ap (take i) e ∙ ap (λ (n : ℕ). take n (l ++ rest)) (sym seam) ∙ take-append-add l rest (i - length l) in
         let b : IsLine ((l ++ part) ++ more) s.begun.1 s.begun.2 = subst (λ (x : List ℕ). IsLine (x ++ more) s.begun.1 s.begun.2) front s.begun.3 in
         let same = same_line l ((l ++ part) ++ more) d s.begun.1 m s.begun.2 (part ++ more) [] h b (sym (append_assoc l part more) ∙ sym (append-nil ((l ++ part) ++ more))) in
         let none : part ≡ [] = nil_from_length part (omega (arith, ap length same.rest, length-append part more)) in

@@ -15,23 +15,19 @@ pub struct Listing<'a> {
 }
 
 // Reads a catalogue to its end, or to its first faulty line.
-pub fn list_lots<'a>(heap: Global, text: &'a [u8]) -> Result<Listing<'a>, AllocError>
+#[tactic(auto, using(crate::proofs::Listed::runs))]
+pub fn list_lots(heap: Global, text: &[u8]) -> Result<Listing<'_>, AllocError>
     ensures listed { IfOk result (λ l. Listed text.now (values l.lots.items) l.fault) }
     ensures runs { Runs text.now }
 {
     let mut reader = Reader::new(text);
     let mut lots = Vec::new(heap);
-    loop {
-        let entry = match reader.next() {
-            Ok(entry) => entry,
-            Err(fault) => return Ok(Listing {
-                lots,
-                fault: Some(fault),
-            }),
-        };
-        match entry {
-            Entry::Lot(lot) => lots.push(lot)?,
-            Entry::End => return Ok(Listing { lots, fault: None }),
+    let fault = loop {
+        match reader.next() {
+            Ok(Entry::Lot(lot)) => lots.push(lot)?,
+            Ok(Entry::End) => break None,
+            Err(fault) => break Some(fault),
         }
-    }
+    };
+    Ok(Listing { lots, fault })
 }

@@ -1,8 +1,8 @@
 // A reader that goes through a catalogue line by line.
 ghost use Rattle.std.specs.Prelude.{◌≡◌, ◌≤◌, length};
-ghost use Rattle.catalogue.specs.Entries.{Entered};
+ghost use Rattle.catalogue.specs.Entries.{bad_line, Entered};
 
-use crate::entry::{Entry, Lot};
+use crate::entry::Entry;
 use crate::line::read_line;
 use automaton::fault::Fault;
 use automaton::kind::FaultKind;
@@ -17,6 +17,13 @@ pub struct Reader<'a> {
     text: &'a [u8],
     at: usize,
     ghost within: { at ≤ length text.now },
+}
+
+// The refusal of a line, at a place of the text.
+fn bad_line(place: usize) -> Fault
+    ensures { result ≡ bad_line place }
+{
+    Fault::new(FaultKind::BadLine { place }, Layer::Catalogue)
 }
 
 impl<'a> Reader<'a> {
@@ -36,22 +43,13 @@ impl<'a> Reader<'a> {
         let text = self.text;
         let at = self.at;
         if text.len() > LONGEST {
-            return Err(Fault::new(FaultKind::BadLine { place: LONGEST }, Layer::Catalogue));
+            return Err(bad_line(LONGEST));
         }
         if at >= text.len() {
             return Ok(Entry::End);
         }
-        match read_line(&text[at..]) {
-            Ok(line) => {
-                let from = at + 5 + line.digits;
-                let mark = &text[from..from + line.letters];
-                self.at = from + line.letters + 1;
-                Ok(Entry::Lot(Lot {
-                    number: line.number,
-                    mark,
-                }))
-            }
-            Err(i) => Err(Fault::new(FaultKind::BadLine { place: at + i }, Layer::Catalogue)),
-        }
+        let line = read_line(&text[at..]).map_err(|i| bad_line(at + i))?;
+        self.at = at + line.len;
+        Ok(Entry::Lot(line.lot))
     }
 }

@@ -1,7 +1,10 @@
 // Examples: catalogues good, faulty at each kind of byte, empty, cut off, and at the greatest length.
-use crate::entry::Entry;
+use crate::entry::{Entry, Lot};
 use crate::listing::list_lots;
 use crate::reader::Reader;
+use automaton::fault::Fault;
+use automaton::kind::FaultKind;
+use automaton::layer::Layer;
 use std::process::Abort;
 use std::test::Fail;
 
@@ -57,19 +60,26 @@ fn faulty_lines(rt: HostRuntime) -> Result<(), Fail> {
 #[test]
 fn the_reader_stays(rt: HostRuntime) -> Result<(), Fail> {
     let mut reader = Reader::new(b"LOT 17 abba\nLOT x");
-    match reader.next() {
-        Ok(Entry::Lot(lot)) => {
-            assert_eq!(rt; lot.number, 17);
-            assert!(rt; lot.mark == b"abba".as_slice());
-        }
-        _ => return Err(Fail::new("a lot was to come")),
-    }
+    let lot = Lot {
+        number: 17,
+        mark: b"abba",
+    };
+    assert_eq!(rt; reader.next(), Ok(Entry::Lot(lot)));
+    let fault = Fault::new(FaultKind::BadLine { place: 16 }, Layer::Catalogue);
     for _ in 0..2 {
-        match reader.next() {
-            Err(fault) => assert_eq!(rt; fault.kind.place(), 16),
-            Ok(_) => return Err(Fail::new("a refusal was to come")),
-        }
+        assert_eq!(rt; reader.next(), Err(fault));
     }
+    Ok(())
+}
+
+#[test]
+fn the_numbers_of_entries(rt: HostRuntime) -> Result<(), Fail> {
+    let lot = Lot {
+        number: 17,
+        mark: b"abba",
+    };
+    assert_eq!(rt; u8::from(Entry::Lot(lot)), 1);
+    assert_eq!(rt; u8::from(Entry::End), 0);
     Ok(())
 }
 

@@ -1,3 +1,1 @@
-pub mod Fits
 pub mod Kept
-pub mod Pairs

@@ -6,25 +6,24 @@
 --   beside              the first's states, and then the second's, which are raised by the number of the first's; the start is
 --                       the first's, and each state steps and is kept as in its own automaton
 --   most_states         how many states a combination may have
+--   misfit              the refusal of two rules that do not fit, by its kind
 --   letters_differ      the refusal of two rules with different numbers of letters
 --   too_many_states     the refusal of a combination that would have too many states
 --   fit                 whether rules of k and of l letters fit in a combination of so many states: k and l are equal, and the states
 --                       are not too many
 --   fit_answer          the answer to that, which hands on x, or else the refusal; the letters are looked at first
 --   pairs, sum          how many states the product and the disjoint union of two automata have
---   sizes_of            the sizes of two automata
 --   intersection        the product of two automata that fit, and else the blank automaton
 --   disjoint_union      two automata beside each other if they fit, and else the blank automaton
 --   difference          the intersection of the first with the complement of the second
 use Rattle.std.specs.Prelude.{ℕ, ◌+◌, ◌-◌, ◌*◌, ◌/◌, ◌%◌, Bool, false, cond, not, ◌&&◌, Ok, Err, Result, ◌==◌, nat_le, nat_lt}
 use Rattle.automaton.specs.declared.fault.Fault.{Fault}
+use Rattle.automaton.specs.declared.kind.FaultKind.{FaultKind}
 use Rattle.automaton.specs.declared.kind.FaultKind.TheVariants.{LettersDiffer, TooManyStates}
 use Rattle.automaton.specs.declared.layer.Layer.TheVariants.{Combined}
 use Rattle.automaton.specs.declared.side.Side.TheVariants.{Pair}
-use Rattle.automaton.specs.Answers.{size_answer}
 use Rattle.automaton.specs.Automata.{Automaton, automaton, blank}
 use Rattle.automaton.specs.Faults.{refusal, sided}
-use Rattle.combine.specs.declared.sizes.Sizes.{Sizes}
 
 abbrev pub complement : Automaton → Automaton
 complement m = automaton m.count m.letters m.start (λ p. not (m.kept p)) m.next
@@ -48,11 +47,14 @@ beside m n = automaton
 abbrev pub most_states : ℕ
 most_states = 4096
 
+abbrev pub misfit : FaultKind → Fault
+misfit k = sided Pair (refusal k Combined)
+
 abbrev pub letters_differ : Fault
-letters_differ = sided Pair (refusal LettersDiffer Combined)
+letters_differ = misfit LettersDiffer
 
 abbrev pub too_many_states : Fault
-too_many_states = sided Pair (refusal TooManyStates Combined)
+too_many_states = misfit TooManyStates
 
 abbrev pub fit : ℕ → ℕ → ℕ → Bool
 fit k l states = cond (k == l) (nat_le states most_states) false
@@ -65,9 +67,6 @@ pairs m n = m.count * n.count
 
 abbrev pub sum : Automaton → Automaton → ℕ
 sum m n = m.count + n.count
-
-abbrev pub sizes_of : Automaton → Automaton → Sizes
-sizes_of m n = record { first = size_answer m.count m.letters; second = size_answer n.count n.letters }
 
 abbrev pub intersection : Automaton → Automaton → Automaton
 intersection m n = cond (fit m.letters n.letters (pairs m n)) (product m n) blank

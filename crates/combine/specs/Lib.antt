@@ -1,3 +1,4 @@
 pub mod Bounds
 pub mod Combined
 pub mod Laws
+pub mod Sizes

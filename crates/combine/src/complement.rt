@@ -13,6 +13,19 @@ pub struct Complement<R> {
     pub rule: R,
 }
 
+impl<R: Rule> Complement<R> {
+    ghost use Rattle.std.specs.Prelude.{◌≡◌};
+    ghost use Rattle.combine.specs.Laws.{Complements};
+
+    // The rule that keeps what another drops.
+    pub fn new(rule: R) -> Complement<R>
+        ensures rule { result.rule ≡ rule }
+        ensures law { Complements (meaning R.Rule rule) (meaning ⟦<Complement<R> as Rule>⟧ result) }
+    {
+        Complement { rule }
+    }
+}
+
 impl<R: Rule> Rule for Complement<R> {
     ghost count = { λ c. (complement (meaning R.Rule c.rule)).count };
 

@@ -2,10 +2,11 @@
 ghost use Rattle.automaton.specs.Meanings.{meaning};
 ghost use Rattle.combine.specs.Bounds.{difference_lawful};
 ghost use Rattle.combine.specs.Combined.{difference, pairs};
-ghost use Rattle.combine.specs.Laws.{Fitted};
 
 use crate::complement::Complement;
+use crate::fits::Fits;
 use crate::intersection::Intersection;
+use crate::sizes::Sizes;
 use automaton::fault::Fault;
 use automaton::rule::Rule;
 use automaton::size::Size;
@@ -18,14 +19,37 @@ pub struct Difference<A, B> {
 }
 
 impl<A: Rule, B: Rule> Difference<A, B> {
-    // Whether the two rules fit.
-    pub fn fits(&self) -> Result<(), Fault>
-        ensures { Fitted (A.Rule.letters self.now.pair.first) (B.Rule.letters self.now.pair.second.rule) (pairs (meaning A.Rule self.now.pair.first) (meaning B.Rule self.now.pair.second.rule)) result }
+    ghost use Rattle.std.specs.Prelude.{◌≡◌};
+    ghost use Rattle.combine.specs.Laws.{Subtracts};
+
+    // The rule that keeps what the first keeps and the struck one drops; the blank rule where they do not fit.
+    pub fn new(first: A, struck: B) -> Difference<A, B>
+        ensures first { result.pair.first ≡ first }
+        ensures struck { result.pair.second.rule ≡ struck }
+        ensures law { Subtracts (meaning A.Rule first) (meaning B.Rule struck) (meaning ⟦<Difference<A, B> as Rule>⟧ result) }
     {
-        self.pair.fits()
+        Difference {
+            pair: Intersection {
+                first,
+                second: Complement { rule: struck },
+            },
+        }
     }
 }
 
+impl<A: Rule, B: Rule> Fits for Difference<A, B> {
+    ghost first = { λ c. meaning A.Rule c.pair.first };
+
+    ghost second = { λ c. meaning B.Rule c.pair.second.rule };
+
+    ghost states = { λ c. pairs (meaning A.Rule c.pair.first) (meaning B.Rule c.pair.second.rule) };
+
+    fn sizes(&self) -> Sizes {
+        self.pair.sizes()
+    }
+}
+
+// Each question goes to the pair. The type is there for its law and for the names of its parts.
 impl<A: Rule, B: Rule> Rule for Difference<A, B> {
     ghost count = { λ c. (difference (meaning A.Rule c.pair.first) (meaning B.Rule c.pair.second.rule)).count };
 

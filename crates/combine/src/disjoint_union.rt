@@ -2,9 +2,9 @@
 ghost use Rattle.std.specs.Prelude.{◌≡◌};
 ghost use Rattle.automaton.specs.Meanings.{meaning};
 ghost use Rattle.combine.specs.Bounds.{disjoint_union_lawful};
-ghost use Rattle.combine.specs.Combined.{disjoint_union, fit_answer, sizes_of, sum};
-ghost use Rattle.combine.specs.Laws.{Fitted};
+ghost use Rattle.combine.specs.Combined.{disjoint_union, sum};
 
+use crate::fits::Fits;
 use crate::sizes::Sizes;
 use automaton::blank::Blank;
 use automaton::fault::Fault;
@@ -19,30 +19,38 @@ pub struct DisjointUnion<A, B> {
 }
 
 impl<A: Rule, B: Rule> DisjointUnion<A, B> {
-    // Whether the two rules fit.
-    pub fn fits(&self) -> Result<(), Fault>
-        ensures { Fitted (A.Rule.letters self.now.first) (B.Rule.letters self.now.second) (sum (meaning A.Rule self.now.first) (meaning B.Rule self.now.second)) result }
-    {
-        self.fit()
-    }
+    ghost use Rattle.combine.specs.Laws.{Unites};
 
-    // The same, by its definition.
-    fn fit(&self) -> Result<(), Fault>
-        ensures { result ≡ fit_answer (A.Rule.letters self.now.first) (B.Rule.letters self.now.second) (sum (meaning A.Rule self.now.first) (meaning B.Rule self.now.second)) tt }
+    // The rule that has the states of both, and starts as the first; the blank rule where they do not fit.
+    pub fn new(first: A, second: B) -> DisjointUnion<A, B>
+        ensures first { result.first ≡ first }
+        ensures second { result.second ≡ second }
+        ensures law { Unites (meaning A.Rule first) (meaning B.Rule second) (meaning ⟦<DisjointUnion<A, B> as Rule>⟧ result) }
     {
-        self.fitting()?;
-        Ok(())
-    }
-
-    // The sizes of the two rules if they fit. Each rule is asked once.
-    fn fitting(&self) -> Result<Sizes, Fault>
-        ensures { result ≡ fit_answer (A.Rule.letters self.now.first) (B.Rule.letters self.now.second) (sum (meaning A.Rule self.now.first) (meaning B.Rule self.now.second)) (sizes_of (meaning A.Rule self.now.first) (meaning B.Rule self.now.second)) }
-    {
-        let sizes = Sizes::of(&self.first, &self.second);
-        sizes.fitting(sizes.sum())
+        DisjointUnion { first, second }
     }
 }
 
+impl<A: Rule, B: Rule> Fits for DisjointUnion<A, B> {
+    ghost first = { λ c. meaning A.Rule c.first };
+
+    ghost second = { λ c. meaning B.Rule c.second };
+
+    ghost states = { λ c. sum (meaning A.Rule c.first) (meaning B.Rule c.second) };
+
+    fn sizes(&self) -> Sizes {
+        let first = self.first.size();
+        let second = self.second.size();
+        Sizes {
+            first,
+            second,
+            states: first.states + second.states,
+        }
+    }
+}
+
+// Where the rules do not fit, each answer is the blank rule's. Each says so itself: a type that says it once would be longer than what it
+// saves.
 impl<A: Rule, B: Rule> Rule for DisjointUnion<A, B> {
     ghost count = { λ c. (disjoint_union (meaning A.Rule c.first) (meaning B.Rule c.second)).count };
 
@@ -57,24 +65,18 @@ impl<A: Rule, B: Rule> Rule for DisjointUnion<A, B> {
     ghost bounds = { λ c. disjoint_union_lawful (meaning A.Rule c.first) (meaning B.Rule c.second) (A.Rule.bounds c.first) (B.Rule.bounds c.second) };
 
     fn size(&self) -> Size {
-        let Ok(sizes) = self.fitting() else {
-            return Blank.size();
-        };
-        Size {
-            states: sizes.sum(),
-            letters: sizes.first.letters,
-        }
+        self.sizes().combined()
     }
 
     fn start_state(&self) -> usize {
-        if self.fitting().is_err() {
+        if self.fits().is_err() {
             return Blank.start_state();
         }
         self.first.start_state()
     }
 
     fn kept_at(&self, state: usize) -> Result<bool, Fault> {
-        let Ok(sizes) = self.fitting() else {
+        let Ok(sizes) = self.sizes().fitting() else {
             return Blank.kept_at(state);
         };
         let n = sizes.first.states;
@@ -85,7 +87,7 @@ impl<A: Rule, B: Rule> Rule for DisjointUnion<A, B> {
     }
 
     fn next_from(&self, state: usize, letter: usize) -> Result<usize, Fault> {
-        let Ok(sizes) = self.fitting() else {
+        let Ok(sizes) = self.sizes().fitting() else {
             return Blank.next_from(state, letter);
         };
         let n = sizes.first.states;

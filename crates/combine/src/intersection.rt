@@ -2,10 +2,10 @@
 ghost use Rattle.std.specs.Prelude.{◌≡◌};
 ghost use Rattle.automaton.specs.Meanings.{meaning};
 ghost use Rattle.combine.specs.Bounds.{intersection_lawful};
-ghost use Rattle.combine.specs.Combined.{fit_answer, intersection, pairs, sizes_of};
-ghost use Rattle.combine.specs.Laws.{Fitted};
+ghost use Rattle.combine.specs.Combined.{intersection, pairs};
 
-use crate::sizes::{Pair, Sizes};
+use crate::fits::Fits;
+use crate::sizes::Sizes;
 use automaton::blank::Blank;
 use automaton::fault::Fault;
 use automaton::rule::Rule;
@@ -19,30 +19,38 @@ pub struct Intersection<A, B> {
 }
 
 impl<A: Rule, B: Rule> Intersection<A, B> {
-    // Whether the two rules fit.
-    pub fn fits(&self) -> Result<(), Fault>
-        ensures { Fitted (A.Rule.letters self.now.first) (B.Rule.letters self.now.second) (pairs (meaning A.Rule self.now.first) (meaning B.Rule self.now.second)) result }
-    {
-        self.fit()
-    }
+    ghost use Rattle.combine.specs.Laws.{Intersects};
 
-    // The same, by its definition.
-    fn fit(&self) -> Result<(), Fault>
-        ensures { result ≡ fit_answer (A.Rule.letters self.now.first) (B.Rule.letters self.now.second) (pairs (meaning A.Rule self.now.first) (meaning B.Rule self.now.second)) tt }
+    // The rule that keeps what both keep; the blank rule where they do not fit.
+    pub fn new(first: A, second: B) -> Intersection<A, B>
+        ensures first { result.first ≡ first }
+        ensures second { result.second ≡ second }
+        ensures law { Intersects (meaning A.Rule first) (meaning B.Rule second) (meaning ⟦<Intersection<A, B> as Rule>⟧ result) }
     {
-        self.fitting()?;
-        Ok(())
-    }
-
-    // The sizes of the two rules if they fit. Each rule is asked once.
-    fn fitting(&self) -> Result<Sizes, Fault>
-        ensures { result ≡ fit_answer (A.Rule.letters self.now.first) (B.Rule.letters self.now.second) (pairs (meaning A.Rule self.now.first) (meaning B.Rule self.now.second)) (sizes_of (meaning A.Rule self.now.first) (meaning B.Rule self.now.second)) }
-    {
-        let sizes = Sizes::of(&self.first, &self.second);
-        sizes.fitting(sizes.pairs())
+        Intersection { first, second }
     }
 }
 
+impl<A: Rule, B: Rule> Fits for Intersection<A, B> {
+    ghost first = { λ c. meaning A.Rule c.first };
+
+    ghost second = { λ c. meaning B.Rule c.second };
+
+    ghost states = { λ c. pairs (meaning A.Rule c.first) (meaning B.Rule c.second) };
+
+    fn sizes(&self) -> Sizes {
+        let first = self.first.size();
+        let second = self.second.size();
+        Sizes {
+            first,
+            second,
+            states: first.states * second.states,
+        }
+    }
+}
+
+// Where the rules do not fit, each answer is the blank rule's. Each says so itself: a type that says it once would be longer than what it
+// saves.
 impl<A: Rule, B: Rule> Rule for Intersection<A, B> {
     ghost count = { λ c. (intersection (meaning A.Rule c.first) (meaning B.Rule c.second)).count };
 
@@ -57,48 +65,33 @@ impl<A: Rule, B: Rule> Rule for Intersection<A, B> {
     ghost bounds = { λ c. intersection_lawful (meaning A.Rule c.first) (meaning B.Rule c.second) (A.Rule.bounds c.first) (B.Rule.bounds c.second) };
 
     fn size(&self) -> Size {
-        let Ok(sizes) = self.fitting() else {
-            return Blank.size();
-        };
-        Size {
-            states: sizes.pairs(),
-            letters: sizes.first.letters,
-        }
+        self.sizes().combined()
     }
 
     fn start_state(&self) -> usize {
-        let Ok(sizes) = self.fitting() else {
+        let Ok(sizes) = self.sizes().fitting() else {
             return Blank.start_state();
         };
-        sizes.number(Pair {
-            first: self.first.start_state(),
-            second: self.second.start_state(),
-        })
+        sizes.number(self.first.start_state(), self.second.start_state())
     }
 
     fn kept_at(&self, state: usize) -> Result<bool, Fault> {
-        let Ok(sizes) = self.fitting() else {
+        let Ok(sizes) = self.sizes().fitting() else {
             return Blank.kept_at(state);
         };
-        if state >= sizes.pairs() {
-            return Err(Fault::no_state());
-        }
-        let pair = sizes.apart(state);
-        let first = self.first.kept_at(pair.first)?;
-        let second = self.second.kept_at(pair.second)?;
+        let (p, q) = sizes.apart(state)?;
+        let first = self.first.kept_at(p)?;
+        let second = self.second.kept_at(q)?;
         Ok(first && second)
     }
 
     fn next_from(&self, state: usize, letter: usize) -> Result<usize, Fault> {
-        let Ok(sizes) = self.fitting() else {
+        let Ok(sizes) = self.sizes().fitting() else {
             return Blank.next_from(state, letter);
         };
-        if state >= sizes.pairs() {
-            return Err(Fault::no_state());
-        }
-        let pair = sizes.apart(state);
-        let first = self.first.next_from(pair.first, letter)?;
-        let second = self.second.next_from(pair.second, letter)?;
-        Ok(sizes.number(Pair { first, second }))
+        let (p, q) = sizes.apart(state)?;
+        let first = self.first.next_from(p, letter)?;
+        let second = self.second.next_from(q, letter)?;
+        Ok(sizes.number(first, second))
     }
 }

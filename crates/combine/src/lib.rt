@@ -4,8 +4,8 @@
 pub mod complement;
 pub mod difference;
 pub mod disjoint_union;
+pub mod fits;
 pub mod intersection;
-mod making;
-mod sizes;
+pub mod sizes;
 #[cfg(test)]
 mod tests;

@@ -1,8 +1,10 @@
-// The sizes of the two rules of a combination, and whether they fit.
-ghost use Rattle.std.specs.Prelude.{◌≡◌, ◌+◌, ◌*◌, ◌/◌, ◌%◌, ◌<◌, ◌≤◌};
-ghost use Rattle.automaton.specs.Meanings.{meaning};
-ghost use Rattle.combine.specs.Combined.{fit_answer, sizes_of};
+// The sizes of two rules and of their combination, and whether the rules fit.
+ghost use Rattle.std.specs.Prelude.{◌≡◌, ◌+◌, ◌*◌, ◌/◌, ◌%◌, ◌<◌, ◌≤◌, IfOk, cond, nat_lt};
+ghost use Rattle.automaton.specs.Answers.{no_state, size_answer};
+ghost use Rattle.automaton.specs.Automata.{blank};
+ghost use Rattle.combine.specs.Combined.{fit, fit_answer, misfit};
 
+use automaton::blank::Blank;
 use automaton::fault::Fault;
 use automaton::kind::FaultKind;
 use automaton::layer::Layer;
@@ -13,84 +15,75 @@ use automaton::size::Size;
 // A combination has at most so many states.
 const MOST_STATES: usize = 4096;
 
-// A state of the first rule and one of the second.
-#[derive(Clone, Copy)]
-pub(crate) struct Pair {
-    pub(crate) first: usize,
-    pub(crate) second: usize,
-}
-
-// The sizes of two rules.
-#[derive(Clone, Copy)]
-pub(crate) struct Sizes {
-    pub(crate) first: Size,
-    pub(crate) second: Size,
+// The sizes of two rules, and how many states their combination has if they fit.
+#[derive(Clone, Copy, PartialEq, Eq, Debug)]
+pub struct Sizes {
+    pub first: Size,
+    pub second: Size,
+    pub states: usize,
+    ghost first_few: { first.states ≤ 4096 },
+    ghost second_few: { second.states ≤ 4096 },
 }
 
 impl Sizes {
-    // The sizes of two rules, each of which is asked once.
-    pub(crate) fn of<A: Rule, B: Rule>(first: &A, second: &B) -> Sizes
-        ensures value { result ≡ sizes_of (meaning A.Rule first.now) (meaning B.Rule second.now) }
-        ensures first { result.first.states ≤ 4096 }
-        ensures second { result.second.states ≤ 4096 }
-    {
-        Sizes {
-            first: first.size(),
-            second: second.size(),
-        }
-    }
-
-    // The sizes, if the rules fit in a combination of so many states; the letters are looked at first.
-    pub(crate) fn fitting(self, states: usize) -> Result<Sizes, Fault>
-        ensures { result ≡ fit_answer self.first.letters self.second.letters states self }
+    // Whether the rules fit; the letters are looked at first.
+    pub(crate) fn fit(self) -> Result<(), Fault>
+        ensures { result ≡ fit_answer self.first.letters self.second.letters self.states tt }
     {
         if self.first.letters != self.second.letters {
-            return Err(Fault::new(FaultKind::LettersDiffer, Layer::Combined).on(Side::Pair));
+            return Err(misfit(FaultKind::LettersDiffer));
         }
-        if states > MOST_STATES {
-            return Err(Fault::new(FaultKind::TooManyStates, Layer::Combined).on(Side::Pair));
+        if self.states > MOST_STATES {
+            return Err(misfit(FaultKind::TooManyStates));
         }
+        Ok(())
+    }
+
+    // The sizes, if the rules fit.
+    pub(crate) fn fitting(self) -> Result<Sizes, Fault>
+        ensures { result ≡ fit_answer self.first.letters self.second.letters self.states self }
+    {
+        self.fit()?;
         Ok(self)
     }
 
-    // The number of pairs of states.
-    pub(crate) fn pairs(self) -> usize
-        requires first { self.first.states ≤ 4096 }
-        requires second { self.second.states ≤ 4096 }
-        ensures { result ≡ self.first.states * self.second.states }
+    // The size of the combination; that of the blank rule where the rules do not fit.
+    pub(crate) fn combined(self) -> Size
+        ensures { result ≡ cond (fit self.first.letters self.second.letters self.states) (size_answer self.states self.first.letters) (size_answer blank.count blank.letters) }
     {
-        self.first.states * self.second.states
-    }
-
-    // The number of states of both.
-    pub(crate) fn sum(self) -> usize
-        requires first { self.first.states ≤ 4096 }
-        requires second { self.second.states ≤ 4096 }
-        ensures { result ≡ self.first.states + self.second.states }
-    {
-        self.first.states + self.second.states
-    }
-
-    // The two states whose pair has a number.
-    pub(crate) fn apart(self, state: usize) -> Pair
-        requires { state < self.first.states * self.second.states }
-        ensures first { result.first ≡ state / self.second.states }
-        ensures second { result.second ≡ state % self.second.states }
-        ensures there { (result.first < self.first.states) × (result.second < self.second.states) }
-    {
-        Pair {
-            first: state / self.second.states,
-            second: state % self.second.states,
+        if self.fit().is_err() {
+            return Blank.size();
+        }
+        Size {
+            states: self.states,
+            letters: self.first.letters,
         }
     }
 
-    // The number of a pair.
-    pub(crate) fn number(self, pair: Pair) -> usize
-        requires first { pair.first < self.first.states }
-        requires second { pair.second < self.second.states }
-        requires few { self.first.states * self.second.states ≤ 4096 }
-        ensures { result ≡ pair.first * self.second.states + pair.second }
+    // The two states whose pair has a number. A pair that is not there is refused.
+    pub(crate) fn apart(self, state: usize) -> Result<(usize, usize), Fault>
+        ensures value { result ≡ cond (nat_lt state (self.first.states * self.second.states)) (Ok (state / self.second.states, state % self.second.states)) (Err no_state) }
+        ensures there { IfOk result (λ pair. (pair.0 < self.first.states) × (pair.1 < self.second.states)) }
     {
-        pair.first * self.second.states + pair.second
+        if state >= self.first.states * self.second.states {
+            return Err(Fault::no_state());
+        }
+        Ok((state / self.second.states, state % self.second.states))
     }
+
+    // The number of a pair.
+    pub(crate) fn number(self, first: usize, second: usize) -> usize
+        requires first { first < self.first.states }
+        requires second { second < self.second.states }
+        ensures { result ≡ first * self.second.states + second }
+    {
+        first * self.second.states + second
+    }
+}
+
+// The refusal of two rules that do not fit.
+fn misfit(kind: FaultKind) -> Fault
+    ensures { result ≡ misfit kind }
+{
+    Fault::new(kind, Layer::Combined).on(Side::Pair)
 }

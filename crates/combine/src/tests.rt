@@ -1,11 +1,16 @@
-// Examples, over rules that count one letter.
+// Examples, over rules that count one letter. The three functions with contracts say what `fits` promises in terms of the two rules,
+// for each kind of combination.
 ghost use Rattle.std.specs.Prelude.{◌+◌, ◌%◌, ◌<◌, ◌≤◌, if◌then◌else◌, ◌==◌, nat_eq};
 ghost use Rattle.std.proofs.lemmas.Nat.{mod_below};
 ghost use Rattle.std.proofs.lemmas.Bool.{cond_both};
+ghost use Rattle.automaton.specs.Meanings.{meaning};
+ghost use Rattle.combine.specs.Combined.{pairs, sum};
+ghost use Rattle.combine.specs.Laws.{Fitted};
 
 use crate::complement::Complement;
 use crate::difference::Difference;
 use crate::disjoint_union::DisjointUnion;
+use crate::fits::Fits;
 use crate::intersection::Intersection;
 use automaton::blank::Blank;
 use automaton::fault::Fault;
@@ -105,6 +110,27 @@ fn refused(kind: FaultKind) -> Result<(), Fault> {
     Err(Fault::new(kind, Layer::Combined).on(Side::Pair))
 }
 
+// Whether the rules of an intersection fit.
+fn intersection_fits<A: Rule, B: Rule>(combined: &Intersection<A, B>) -> Result<(), Fault>
+    ensures { Fitted (A.Rule.letters combined.now.first) (B.Rule.letters combined.now.second) (pairs (meaning A.Rule combined.now.first) (meaning B.Rule combined.now.second)) result }
+{
+    combined.fits()
+}
+
+// Whether the rules of a disjoint union fit.
+fn union_fits<A: Rule, B: Rule>(combined: &DisjointUnion<A, B>) -> Result<(), Fault>
+    ensures { Fitted (A.Rule.letters combined.now.first) (B.Rule.letters combined.now.second) (sum (meaning A.Rule combined.now.first) (meaning B.Rule combined.now.second)) result }
+{
+    combined.fits()
+}
+
+// Whether the rules of a difference fit.
+fn difference_fits<A: Rule, B: Rule>(combined: &Difference<A, B>) -> Result<(), Fault>
+    ensures { Fitted (A.Rule.letters combined.now.pair.first) (B.Rule.letters combined.now.pair.second.rule) (pairs (meaning A.Rule combined.now.pair.first) (meaning B.Rule combined.now.pair.second.rule)) result }
+{
+    combined.fits()
+}
+
 #[test]
 fn complements(rt: HostRuntime) {
     let odd = Complement::new(EVEN);
@@ -139,27 +165,27 @@ fn intersections(rt: HostRuntime) {
 #[test]
 fn fitting(rt: HostRuntime) {
     assert_eq!(rt;
-        Intersection::new(of_states(64), of_states(64)).fits(),
+        intersection_fits(&Intersection::new(of_states(64), of_states(64))),
         Ok(())
     );
     assert_eq!(rt;
-        Intersection::new(of_states(64), of_states(65)).fits(),
+        intersection_fits(&Intersection::new(of_states(64), of_states(65))),
         refused(FaultKind::TooManyStates)
     );
     assert_eq!(rt;
-        Difference::new(of_states(64), of_states(65)).fits(),
+        difference_fits(&Difference::new(of_states(64), of_states(65))),
         refused(FaultKind::TooManyStates)
     );
     assert_eq!(rt;
-        DisjointUnion::new(of_states(2048), of_states(2048)).fits(),
+        union_fits(&DisjointUnion::new(of_states(2048), of_states(2048))),
         Ok(())
     );
     assert_eq!(rt;
-        DisjointUnion::new(of_states(2048), of_states(2049)).fits(),
+        union_fits(&DisjointUnion::new(of_states(2048), of_states(2049))),
         refused(FaultKind::TooManyStates)
     );
     assert_eq!(rt;
-        DisjointUnion::new(of_states(4096), NARROW).fits(),
+        union_fits(&DisjointUnion::new(of_states(4096), NARROW)),
         refused(FaultKind::LettersDiffer)
     );
 }

@@ -1,8 +1,6 @@
+pub mod Checked
 pub mod Drawings
-pub mod Faults
 pub mod Firsts
-pub mod NfaOpenings
-pub mod Openings
 pub mod Pictures
 pub mod Sets
 pub mod Strays

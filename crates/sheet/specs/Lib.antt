@@ -1,6 +1,7 @@
 pub mod Bits
 pub mod Bounds
 pub mod First
+pub mod Forms
 pub mod Layout
 pub mod NfaLayout
 pub mod NfaOpening

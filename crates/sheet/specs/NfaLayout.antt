@@ -20,11 +20,10 @@
 --                   if the bit of q is 1 in the set that stands there
 --   NfaWellFormed   a sheet that may be opened: it has a header, at most 10 own states, is as long as the header asks for, and
 --                   every bit after the last set is 0
---   Counted         counts are those that the header of a sheet writes down, with their bounds
+--   Counted         numbers of own states and of letters are those that the header of a sheet writes down, with their bounds
 use Rattle.std.specs.Prelude.{◌≡◌, ℕ, ◌+◌, ◌-◌, ◌*◌, ◌/◌, ◌^◌, ◌<◌, ◌≤◌, Bool, cond, not, List, length, ◌==◌, bit_and}
 use Rattle.automaton.specs.Automata.{Automaton, automaton}
 use Rattle.automaton.specs.Diagrams.{Diagram}
-use Rattle.sheet.specs.declared.nfa_layout.Counts.{Counts}
 use Rattle.sheet.specs.Bits.{bit, field}
 use Rattle.sheet.specs.Layout.{letter_count}
 use Rattle.sheet.specs.Sets.{union}
@@ -86,8 +85,8 @@ pub record NfaWellFormed (bs : List ℕ) : Type 0 where
   pub whole : length bs ≡ nfa_bytes bs
   pub clear : (i : ℕ) → nfa_bits bs ≤ i → i < 8 * length bs → bit bs i ≡ 0
 
-pub record Counted (bs : List ℕ) (counts : Counts) : Type 0 where
-  pub own : counts.own ≡ own_count bs
-  pub letters : counts.letters ≡ letter_count bs
-  pub few_own : counts.own ≤ 16
-  pub few_letters : counts.letters ≤ 16
+pub record Counted (bs : List ℕ) (own letters : ℕ) : Type 0 where
+  pub own_states : own ≡ own_count bs
+  pub all_letters : letters ≡ letter_count bs
+  pub few_own : own ≤ 16
+  pub few_letters : letters ≤ 16

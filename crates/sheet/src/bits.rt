@@ -1,4 +1,6 @@
-// Fields of bits across bytes, the most significant bit first.
+// Fields of bits across bytes, the most significant bit first, by shifts and masks as a rule of the project asks (docs/DECISIONS.md, "Forms of
+// code"). A place and a width are no struct of their own: each caller makes both anew and hands them on once. The casts that are
+// left are between `usize` and `u32`, which have no `From`, or cut a number to its lowest bits.
 ghost use Rattle.std.specs.Prelude.{◌≡◌, ℕ, ◌+◌, ◌*◌, ◌%◌, ◌^◌, ◌<◌, ◌≤◌, ◌⊎◌, length, nat_le, slice_index, slice_set};
 ghost use Rattle.sheet.specs.Bits.{bit, field, field_answer, truncated, window, Written};
 
@@ -11,19 +13,20 @@ use automaton::layer::Layer;
 fn byte_at(bytes: &[u8], i: usize) -> u8
     ensures { result ≡ slice_index bytes.now i }
 {
-    if i < bytes.len() { bytes[i] } else { 0 }
+    bytes.get(i).copied().unwrap_or(0)
 }
 
 // The three bytes from `first` on as one number.
+#[tactic(auto, using(crate::proofs::Windows::three_or))]
 fn three_bytes(bytes: &[u8], first: usize) -> u32
     requires { first < 2 ^ 61 }
     ensures value { result ≡ window bytes.now first }
     ensures bound { result < 2 ^ 24 }
     ensures typed { (k : ℕ) → slice_index bytes.now k < 256 }
 {
-    let high = (byte_at(bytes, first) as u32) << 16;
-    let middle = (byte_at(bytes, first + 1) as u32) << 8;
-    let low = byte_at(bytes, first + 2) as u32;
+    let high = u32::from(byte_at(bytes, first)) << 16;
+    let middle = u32::from(byte_at(bytes, first + 1)) << 8;
+    let low = u32::from(byte_at(bytes, first + 2));
     high | middle | low
 }
 
@@ -31,7 +34,7 @@ fn three_bytes(bytes: &[u8], first: usize) -> u32
 fn has_room(bytes: &[u8], at: usize, width: Width) -> bool
     ensures { result ≡ nat_le (at + width.bits) (8 * length bytes.now) }
 {
-    at / 8 + (at % 8 + width.bits() as usize + 7) / 8 <= bytes.len()
+    at / 8 + (at % 8 + width.bits as usize).div_ceil(8) <= bytes.len()
 }
 
 // The refusal of a field that has no room.
@@ -42,13 +45,13 @@ fn no_room() -> Fault
 }
 
 // The field at the bit `at`; past the end every bit is 0.
+#[tactic(auto, using(crate::proofs::Windows::mask_lt, crate::proofs::Windows::window_read))]
 pub(crate) fn read_bits(bytes: &[u8], at: usize, width: Width) -> u16
     ensures value { result ≡ field bytes.now at width.bits }
     ensures bound { result < 2 ^ width.bits }
 {
-    let bits = width.bits();
-    let shift = 24 - (at % 8) as u32 - bits;
-    ((three_bytes(bytes, at / 8) >> shift) & ((1 << bits) - 1)) as u16
+    let shift = 24 - (at % 8) as u32 - width.bits;
+    ((three_bytes(bytes, at / 8) >> shift) & ((1 << width.bits) - 1)) as u16
 }
 
 // The field at the bit `at`, refused where it ends past the last byte.
@@ -62,6 +65,7 @@ pub fn read_field(bytes: &[u8], at: usize, width: Width) -> Result<u16, Fault>
 }
 
 // Writes the byte at `i`, and nothing past the end.
+#[tactic(auto, using(std::proofs::lemmas::List::set_past))]
 fn put_byte(bytes: &mut [u8], i: usize, b: u8)
     ensures { bytes.new ≡ slice_set bytes.old i b }
 {
@@ -71,10 +75,11 @@ fn put_byte(bytes: &mut [u8], i: usize, b: u8)
 }
 
 // The lowest bits of a value.
+#[tactic(auto, using(crate::proofs::Windows::mask_low))]
 fn low_bits(value: u16, width: Width) -> u32
     ensures { result ≡ value % 2 ^ width.bits }
 {
-    value as u32 & ((1 << width.bits()) - 1)
+    u32::from(value) & ((1 << width.bits) - 1)
 }
 
 // Makes the field at the bit `at` hold `value`, and leaves every other bit.
@@ -85,10 +90,9 @@ fn write_bits(bytes: &mut [u8], at: usize, width: Width, value: u32)
     ensures others { (j : ℕ) → (j < at) ⊎ (at + width.bits ≤ j) → bit bytes.new j ≡ bit bytes.old j }
 {
     let first = at / 8;
-    let bits = width.bits();
-    let shift = 24 - (at % 8) as u32 - bits;
+    let shift = 24 - (at % 8) as u32 - width.bits;
     let old = three_bytes(bytes, first);
-    let above = old >> (shift + bits) << (shift + bits);
+    let above = old >> (shift + width.bits) << (shift + width.bits);
     let below = old & ((1 << shift) - 1);
     let new = above | value << shift | below;
     put_byte(bytes, first, ((new >> 16) & 0xff) as u8);

@@ -1,7 +1,6 @@
 // The fields of a table sheet.
-ghost use Rattle.std.specs.Prelude.{◌≡◌, ◌<◌, ◌≤◌};
-ghost use Rattle.automaton.specs.Answers.{size_answer};
-ghost use Rattle.sheet.specs.Layout.{Headed, kept_in, letter_count, next_in, row_at, state_count, stray_letter};
+ghost use Rattle.std.specs.Prelude.{◌≡◌, ◌<◌, ◌≤◌, IfSome, IsSome};
+ghost use Rattle.sheet.specs.Layout.{Headed, kept_in, letter_count, next_in, row_start, stray_letter, stray_state};
 
 use crate::bits::read_bits;
 use crate::width::Width;
@@ -12,64 +11,72 @@ pub(crate) fn letter_count(sheet: &[u8]) -> usize
     ensures value { result ≡ letter_count sheet.now }
     ensures bound { result ≤ 16 }
 {
-    read_bits(sheet, 0, Width::of(4)) as usize + 1
+    usize::from(read_bits(sheet, 0, Width::of(4))) + 1
 }
 
-// The numbers of states and letters.
-pub(crate) fn header(sheet: &[u8]) -> Size
-    ensures value { result ≡ size_answer (state_count sheet.now) (letter_count sheet.now) }
-    ensures headed { Headed sheet.now result }
-{
-    Size {
-        states: read_bits(sheet, 4, Width::of(10)) as usize + 1,
-        letters: letter_count(sheet),
-    }
+// The rows of a table sheet: its bytes, and the numbers of states and letters that its header writes down.
+#[derive(Clone, Copy)]
+pub(crate) struct Rows<'a> {
+    bytes: &'a [u8],
+    pub(crate) size: Size,
+    ghost headed: { Headed bytes.now size },
 }
 
-// Where the row of a state begins.
-pub(crate) fn row_start(letters: usize, state: usize) -> usize
-    requires letters { letters ≤ 16 }
-    requires state { state ≤ 1024 }
-    ensures value { result ≡ row_at letters state }
-    ensures bound { result ≤ 164878 }
-{
-    14 + state * (1 + 10 * letters)
-}
-
-// Whether a state is kept.
-pub(crate) fn kept_bit(sheet: &[u8], size: Size, state: usize) -> bool
-    requires headed { Headed sheet.now size }
-    requires state { state ≤ 1024 }
-    ensures { result ≡ kept_in sheet.now state }
-{
-    read_bits(sheet, row_start(size.letters, state), Width::of(1)) == 1
-}
-
-// The next state.
-pub(crate) fn next_state(sheet: &[u8], size: Size, state: usize, letter: usize) -> usize
-    requires headed { Headed sheet.now size }
-    requires state { state ≤ 1024 }
-    requires letter { letter ≤ 16 }
-    ensures value { result ≡ next_in sheet.now state letter }
-    ensures bound { result < 1024 }
-{
-    read_bits(
-        sheet,
-        row_start(size.letters, state) + 1 + 10 * letter,
-        Width::of(10),
-    ) as usize
-}
-
-// The first letter under which a state has a next state that is not there.
-pub(crate) fn stray_letter(sheet: &[u8], size: Size, state: usize) -> Option<usize>
-    requires headed { Headed sheet.now size }
-    requires state { state ≤ 1024 }
-    ensures { result ≡ stray_letter sheet.now state }
-{
-    for letter in 0..size.letters {
-        if size.states <= next_state(sheet, size, state, letter) {
-            return Some(letter);
+// Three questions ask that the state is there. A row as a type of its own would need the same test, which the callers make in order to
+// refuse the state, or which their range gives.
+impl<'a> Rows<'a> {
+    // The rows of a sheet.
+    pub(crate) fn of(sheet: &'a [u8]) -> Rows<'a>
+        ensures { result.bytes.now ≡ sheet.now }
+    {
+        let states = usize::from(read_bits(sheet, 4, Width::of(10))) + 1;
+        let letters = letter_count(sheet);
+        Rows {
+            bytes: sheet,
+            size: Size { states, letters },
         }
     }
-    None
+
+    // Where the row of a state begins, and after the last row the filling.
+    pub(crate) fn start(&self, state: usize) -> usize
+        requires { state ≤ self.now.size.states }
+        ensures value { result ≡ row_start self.now.bytes.now state }
+        ensures bound { result ≤ 164878 }
+    {
+        14 + state * (1 + 10 * self.size.letters)
+    }
+
+    // Whether a state is kept.
+    pub(crate) fn is_kept(&self, state: usize) -> bool
+        requires { state < self.now.size.states }
+        ensures { result ≡ kept_in self.now.bytes.now state }
+    {
+        read_bits(self.bytes, self.start(state), Width::of(1)) == 1
+    }
+
+    // The next state.
+    pub(crate) fn next(&self, state: usize, letter: usize) -> usize
+        requires state { state < self.now.size.states }
+        requires letter { letter < self.now.size.letters }
+        ensures { result ≡ next_in self.now.bytes.now state letter }
+    {
+        let at = self.start(state) + 1 + 10 * letter;
+        usize::from(read_bits(self.bytes, at, Width::of(10)))
+    }
+
+    // The first letter under which a state has a next state that is not there.
+    pub(crate) fn stray_letter(&self, state: usize) -> Option<usize>
+        requires { state < self.now.size.states }
+        ensures { result ≡ stray_letter self.now.bytes.now state }
+    {
+        (0..self.size.letters).find(|&letter| self.next(state, letter) >= self.size.states)
+    }
+
+    // The first state that has such a letter.
+    pub(crate) fn stray_state(&self) -> Option<usize>
+        ensures value { result ≡ stray_state self.now.bytes.now }
+        ensures there { IfSome result (λ p. (p < self.now.size.states) × IsSome (stray_letter self.now.bytes.now p)) }
+    {
+        (0..self.size.states).find(|&state| self.stray_letter(state).is_some())
+    }
 }

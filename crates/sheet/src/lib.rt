@@ -3,12 +3,11 @@
 
 pub mod bits;
 mod checks;
+mod held;
 mod layout;
 pub mod nfa;
-mod nfa_checks;
 mod nfa_layout;
-mod nfa_opening;
-mod opening;
+pub mod opening;
 pub mod table;
 #[cfg(test)]
 mod tests;

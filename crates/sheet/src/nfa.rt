@@ -1,11 +1,13 @@
 // A rule that is read off the bits of the sheet of a nondeterministic automaton. Its states are the sets of own states.
-ghost use Rattle.std.specs.Prelude.{◌≡◌, ◌≤◌, [], None};
-ghost use Rattle.automaton.specs.Automata.{blank as blank_automaton};
+ghost use Rattle.std.specs.Prelude.{◌≤◌, refl};
 ghost use Rattle.sheet.specs.Bounds.{setwise_lawful};
 ghost use Rattle.sheet.specs.NfaLayout.{own_count, setwise};
-ghost use Rattle.sheet.specs.NfaOpening.{nfa_fault};
+ghost use Rattle.sheet.specs.NfaOpening.{nfa_form};
 
-use crate::nfa_layout::{count_sets, follow_set, meets_kept, read_counts, start_set};
+use crate::checks::check_nfa;
+use crate::held::Held;
+use crate::nfa_layout::Sets;
+use crate::opening::SheetRule;
 use automaton::fault::Fault;
 use automaton::rule::Rule;
 use automaton::size::Size;
@@ -17,25 +19,7 @@ pub struct Nfa {
     ghost narrow: { own_count bytes.items ≤ 10 },
 }
 
-impl Nfa {
-    // The rule that holds no bytes.
-    pub(crate) fn empty(bytes: Vec<u8>) -> Nfa
-        requires { bytes.items ≡ [] }
-        ensures bytes { result.bytes.items ≡ [] }
-        ensures meaning { setwise result.bytes.items ≡ blank_automaton }
-    {
-        Nfa { bytes }
-    }
-
-    // Holds a sheet that has no fault.
-    pub(crate) fn hold(&mut self, sheet: Vec<u8>)
-        requires { nfa_fault sheet.items ≡ None }
-        ensures { self.new.bytes.items ≡ sheet.items }
-    {
-        self.bytes = sheet;
-    }
-}
-
+// The tests of a state and of a letter are its own, as those of every kind of rule: each is one `if` and answers its own refusal.
 impl Rule for Nfa {
     ghost count = { λ t. (setwise (t.bytes.items)).count };
 
@@ -50,33 +34,57 @@ impl Rule for Nfa {
     ghost bounds = { λ t. setwise_lawful t.bytes.items t.narrow };
 
     fn size(&self) -> Size {
-        let counts = read_counts(&self.bytes);
+        let sets = Sets::of(&self.bytes);
         Size {
-            states: count_sets(&self.bytes, counts),
-            letters: counts.letters,
+            states: sets.count(),
+            letters: sets.letters,
         }
     }
 
     fn start_state(&self) -> usize {
-        start_set(&self.bytes, read_counts(&self.bytes)) as usize
+        usize::from(Sets::of(&self.bytes).starts())
     }
 
     fn kept_at(&self, state: usize) -> Result<bool, Fault> {
-        let counts = read_counts(&self.bytes);
-        if state >= count_sets(&self.bytes, counts) {
+        let sets = Sets::of(&self.bytes);
+        if state >= sets.count() {
             return Err(Fault::no_state());
         }
-        Ok(meets_kept(&self.bytes, counts, state))
+        Ok(sets.meets_kept(state))
     }
 
     fn next_from(&self, state: usize, letter: usize) -> Result<usize, Fault> {
-        let counts = read_counts(&self.bytes);
-        if state >= count_sets(&self.bytes, counts) {
+        let sets = Sets::of(&self.bytes);
+        if state >= sets.count() {
             return Err(Fault::no_state());
         }
-        if letter >= counts.letters {
+        if letter >= sets.letters {
             return Err(Fault::no_letter(0));
         }
-        Ok(follow_set(&self.bytes, counts, state, letter) as usize)
+        Ok(usize::from(sets.follow(state, letter)))
     }
 }
+
+impl Held for Nfa {
+    ghost form = { nfa_form };
+
+    ghost held = { λ t. t.bytes.items };
+
+    #[tactic(auto, using(crate::specs::Bounds::field_nil, crate::proofs::Zeros::setwise_nil))]
+    fn empty(bytes: Vec<u8>) -> Nfa {
+        Nfa { bytes }
+    }
+
+    #[tactic(auto, using(crate::proofs::Checked::nfa_checked))]
+    fn first_fault(sheet: &[u8]) -> Result<(), Fault> {
+        check_nfa(sheet)
+    }
+
+    fn hold(&mut self, sheet: Vec<u8>) {
+        self.bytes = sheet;
+    }
+
+    ghost means = { λ t. refl };
+}
+
+impl SheetRule for Nfa {}

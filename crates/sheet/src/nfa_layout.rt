@@ -1,128 +1,110 @@
 // The fields of the sheet of a nondeterministic automaton.
-ghost use Rattle.std.specs.Prelude.{◌≡◌, ◌<◌, ◌≤◌, if◌then◌else◌};
-ghost use Rattle.sheet.specs.NfaLayout.{Counted, bits_of, followed, kept_set, meets, next_set, own_count, set_count, set_from, start_set};
+ghost use Rattle.std.specs.Prelude.{◌≡◌, ◌<◌, ◌≤◌};
+ghost use Rattle.sheet.specs.Bits.{field};
+ghost use Rattle.sheet.specs.NfaLayout.{Counted, followed, kept_set, meets, next_set, nfa_bits, own_count, set_count, start_set};
 ghost use Rattle.sheet.specs.Sets.{has};
 
 use crate::bits::read_bits;
 use crate::layout::letter_count;
 use crate::width::Width;
 
-// The numbers of own states and of letters.
+// The sets on a sheet: its bytes, and the numbers of own states and of letters that its header writes down.
 #[derive(Clone, Copy)]
-pub(crate) struct Counts {
+pub(crate) struct Sets<'a> {
+    bytes: &'a [u8],
     pub(crate) own: usize,
     pub(crate) letters: usize,
+    ghost counted: { Counted bytes.now own letters },
 }
 
-// The counts that the header writes down.
-pub(crate) fn read_counts(sheet: &[u8]) -> Counts
-    ensures { Counted sheet.now result }
-{
-    Counts {
-        own: read_bits(sheet, 4, Width::of(4)) as usize + 1,
-        letters: letter_count(sheet),
+impl<'a> Sets<'a> {
+    // The sets on a sheet.
+    pub(crate) fn of(sheet: &'a [u8]) -> Sets<'a>
+        ensures { result.bytes.now ≡ sheet.now }
+    {
+        Sets {
+            bytes: sheet,
+            own: usize::from(read_bits(sheet, 4, Width::of(4))) + 1,
+            letters: letter_count(sheet),
+        }
     }
-}
 
-// How many bits the sheet has before the filling.
-pub(crate) fn bit_count(counts: Counts) -> usize
-    requires own { counts.own ≤ 16 }
-    requires letters { counts.letters ≤ 16 }
-    ensures { result ≡ bits_of counts.own counts.letters }
-{
-    8 + counts.own * (2 + counts.own * counts.letters)
-}
-
-// Where the set of next own states begins.
-fn set_start(counts: Counts, own_state: usize, letter: usize) -> usize
-    requires own { counts.own ≤ 16 }
-    requires letters { counts.letters ≤ 16 }
-    requires state { own_state ≤ 16 }
-    requires letter { letter ≤ 16 }
-    ensures { result ≡ set_from counts.own counts.letters own_state letter }
-{
-    8 + counts.own * (2 + own_state * counts.letters + letter)
-}
-
-// The set of next own states.
-fn next_set(sheet: &[u8], counts: Counts, own_state: usize, letter: usize) -> u16
-    requires counts { Counted sheet.now counts }
-    requires state { own_state ≤ 16 }
-    requires letter { letter ≤ 16 }
-    ensures { result ≡ next_set sheet.now own_state letter }
-{
-    read_bits(
-        sheet,
-        set_start(counts, own_state, letter),
-        Width::of(counts.own as u32),
-    )
-}
-
-// The set of starts.
-pub(crate) fn start_set(sheet: &[u8], counts: Counts) -> u16
-    requires { Counted sheet.now counts }
-    ensures { result ≡ start_set sheet.now }
-{
-    read_bits(sheet, 8, Width::of(counts.own as u32))
-}
-
-// The set of kept own states.
-fn kept_set(sheet: &[u8], counts: Counts) -> u16
-    requires { Counted sheet.now counts }
-    ensures { result ≡ kept_set sheet.now }
-{
-    read_bits(sheet, 8 + counts.own, Width::of(counts.own as u32))
-}
-
-// Whether a set has a kept own state.
-pub(crate) fn meets_kept(sheet: &[u8], counts: Counts, set: usize) -> bool
-    requires { Counted sheet.now counts }
-    ensures { result ≡ meets sheet.now set }
-{
-    set & kept_set(sheet, counts) as usize != 0
-}
-
-// Whether an own state is in a set. Own state 0 has the highest of the set's bits.
-fn is_member(own: usize, set: usize, own_state: usize) -> bool
-    requires own { own ≤ 16 }
-    requires state { own_state < own }
-    ensures { result ≡ has own set own_state }
-{
-    set >> (own - 1 - own_state) & 1 == 1
-}
-
-// The set of next own states of a member of a set. What is not a member adds nothing.
-fn member_next(sheet: &[u8], counts: Counts, set: usize, own_state: usize, letter: usize) -> u16
-    requires counts { Counted sheet.now counts }
-    requires state { own_state < counts.own }
-    requires letter { letter ≤ 16 }
-    ensures { result ≡ (if has (own_count sheet.now) set own_state then next_set sheet.now own_state letter else 0) }
-{
-    if is_member(counts.own, set, own_state) {
-        next_set(sheet, counts, own_state, letter)
-    } else {
-        0
+    // How many bits the sheet has before the filling.
+    pub(crate) fn bit_count(&self) -> usize
+        ensures { result ≡ nfa_bits self.now.bytes.now }
+    {
+        8 + self.own * (2 + self.own * self.letters)
     }
-}
 
-// The union of the next sets of a set's members.
-pub(crate) fn follow_set(sheet: &[u8], counts: Counts, set: usize, letter: usize) -> u16
-    requires counts { Counted sheet.now counts }
-    requires letter { letter ≤ 16 }
-    ensures { result ≡ followed sheet.now set letter }
-{
-    let mut all = 0;
-    for own_state in 0..counts.own {
-        all |= member_next(sheet, counts, set, own_state, letter);
+    // The set that begins at a bit.
+    fn set_at(&self, at: usize) -> u16
+        ensures { result ≡ field self.now.bytes.now at self.now.own }
+    {
+        read_bits(self.bytes, at, Width::of(self.own as u32))
     }
-    all
-}
 
-// How many sets of own states there are. With no sheet there is one state.
-pub(crate) fn count_sets(sheet: &[u8], counts: Counts) -> usize
-    requires counts { Counted sheet.now counts }
-    requires few { own_count sheet.now ≤ 10 }
-    ensures { result ≡ set_count sheet.now }
-{
-    if sheet.is_empty() { 1 } else { 1 << counts.own }
+    // The set of starts.
+    pub(crate) fn starts(&self) -> u16
+        ensures { result ≡ start_set self.now.bytes.now }
+    {
+        self.set_at(8)
+    }
+
+    // The set of kept own states.
+    fn kept(&self) -> u16
+        ensures { result ≡ kept_set self.now.bytes.now }
+    {
+        self.set_at(8 + self.own)
+    }
+
+    // The set of next own states.
+    fn next(&self, own_state: usize, letter: usize) -> u16
+        requires state { own_state < self.now.own }
+        requires letter { letter < self.now.letters }
+        ensures { result ≡ next_set self.now.bytes.now own_state letter }
+    {
+        self.set_at(8 + self.own * (2 + own_state * self.letters + letter))
+    }
+
+    // Whether a set has a kept own state.
+    pub(crate) fn meets_kept(&self, set: usize) -> bool
+        ensures { result ≡ meets self.now.bytes.now set }
+    {
+        set & usize::from(self.kept()) != 0
+    }
+
+    // Whether an own state is in a set. Own state 0 has the highest of the set's bits.
+    #[tactic(auto, unfolding(crate::specs::Sets::has))]
+    fn is_member(&self, set: usize, own_state: usize) -> bool
+        requires { own_state < self.now.own }
+        ensures { result ≡ has self.now.own set own_state }
+    {
+        set >> (self.own - 1 - own_state) & 1 == 1
+    }
+
+    // The union of the next sets of a set's members.
+    pub(crate) fn follow(&self, set: usize, letter: usize) -> u16
+        requires { letter < self.now.letters }
+        ensures { result ≡ followed self.now.bytes.now set letter }
+    {
+        (0..self.own).fold(0, |all, own_state| {
+            if self.is_member(set, own_state) {
+                all | self.next(own_state, letter)
+            } else {
+                all
+            }
+        })
+    }
+
+    // How many sets of own states there are. With no sheet there is one state.
+    pub(crate) fn count(&self) -> usize
+        requires { own_count self.now.bytes.now ≤ 10 }
+        ensures { result ≡ set_count self.now.bytes.now }
+    {
+        if self.bytes.is_empty() {
+            1
+        } else {
+            1 << self.own
+        }
+    }
 }

@@ -1,54 +1,39 @@
-// Opening a table sheet.
-ghost use Rattle.std.specs.Prelude.{◌≡◌, ◌⊎◌, []};
+// Opening a sheet.
+ghost use Rattle.std.specs.Prelude.{◌≡◌, []};
 ghost use Rattle.automaton.specs.Automata.{blank as blank_automaton};
 ghost use Rattle.automaton.specs.Meanings.{meaning};
-ghost use Rattle.sheet.specs.Opening.{Copied, NotCopied, Opened, Taken};
-ghost use Rattle.sheet.specs.contracts.table.TableRule.TheImpl.{ghosts};
+ghost use Rattle.sheet.specs.Forms.{Copied, Opened};
 
-use crate::checks::first_fault;
-use crate::table::Table;
+use crate::held::Held;
 use automaton::fault::Fault;
 use automaton::kind::FaultKind;
 use automaton::layer::Layer;
 use std::alloc::Global;
 
-impl Table {
+// A rule that is replaced by opening a sheet of its kind.
+pub trait SheetRule: Held {
     // The rule that keeps nothing.
-    pub fn blank(heap: Global) -> Table
-        ensures bytes { result.bytes.items ≡ [] }
-        ensures rule { meaning ghosts result ≡ blank_automaton }
+    fn blank(heap: Global) -> Self
+        ensures bytes { Self.held result ≡ [] }
+        ensures rule { meaning Self.Rule result ≡ blank_automaton }
     {
-        Table::empty(Vec::new(heap))
+        Self::empty(Vec::new(heap))
     }
 
     // Replaces the held rule by that of a sheet, which is handed over. A refusal leaves the held rule.
-    pub fn replace(&mut self, sheet: Vec<u8>) -> Result<(), Fault>
-        ensures { Opened sheet.items self.old.bytes.items self.new.bytes.items (meaning ghosts self.new) result }
+    fn replace(&mut self, sheet: Vec<u8>) -> Result<(), Fault>
+        ensures { Opened Self.form sheet.items (Self.held self.old) (Self.held self.new) (meaning Self.Rule self.new) result }
     {
-        self.take(sheet)
-    }
-
-    // Replaces the held rule by that of a sheet, which is copied. A refusal leaves the held rule.
-    pub fn open(&mut self, heap: Global, sheet: &[u8]) -> Result<(), Fault>
-        ensures { Copied sheet.now self.old.bytes.items self.new.bytes.items (meaning ghosts self.new) result }
-    {
-        self.take_copy(heap, sheet)
-    }
-
-    // Holds a sheet, or refuses its first fault.
-    fn take(&mut self, sheet: Vec<u8>) -> Result<(), Fault>
-        ensures { Taken sheet.items self.old.bytes.items self.new.bytes.items result }
-    {
-        first_fault(&sheet)?;
+        Self::first_fault(&sheet)?;
         self.hold(sheet);
         Ok(())
     }
 
-    // Holds a copy of a sheet, or refuses its first fault, or refuses for want of memory.
-    fn take_copy(&mut self, heap: Global, sheet: &[u8]) -> Result<(), Fault>
-        ensures { Taken sheet.now self.old.bytes.items self.new.bytes.items result ⊎ NotCopied sheet.now self.old.bytes.items self.new.bytes.items result }
+    // Replaces the held rule by that of a sheet, which is copied. A refusal leaves the held rule.
+    fn open(&mut self, heap: Global, sheet: &[u8]) -> Result<(), Fault>
+        ensures { Copied Self.form sheet.now (Self.held self.old) (Self.held self.new) (meaning Self.Rule self.new) result }
     {
-        first_fault(sheet)?;
+        Self::first_fault(sheet)?;
         let Ok(copy) = Vec::from_slice(heap, sheet) else {
             return Err(Fault::new(FaultKind::OutOfMemory, Layer::Sheet));
         };

@@ -1,11 +1,13 @@
 // A rule that is read off the bits of a table sheet.
-ghost use Rattle.std.specs.Prelude.{◌≡◌, [], None};
-ghost use Rattle.automaton.specs.Automata.{blank as blank_automaton};
+ghost use Rattle.std.specs.Prelude.{refl};
 ghost use Rattle.sheet.specs.Bounds.{tabled_lawful};
 ghost use Rattle.sheet.specs.Layout.{Closed, tabled};
-ghost use Rattle.sheet.specs.Opening.{fault_of};
+ghost use Rattle.sheet.specs.Opening.{table_form};
 
-use crate::layout::{header, kept_bit, next_state};
+use crate::checks::check_table;
+use crate::held::Held;
+use crate::layout::Rows;
+use crate::opening::SheetRule;
 use automaton::fault::Fault;
 use automaton::rule::Rule;
 use automaton::size::Size;
@@ -17,25 +19,7 @@ pub struct Table {
     ghost closed: { Closed bytes.items },
 }
 
-impl Table {
-    // The table that holds no bytes.
-    pub(crate) fn empty(bytes: Vec<u8>) -> Table
-        requires { bytes.items ≡ [] }
-        ensures bytes { result.bytes.items ≡ [] }
-        ensures meaning { tabled result.bytes.items ≡ blank_automaton }
-    {
-        Table { bytes }
-    }
-
-    // Holds a sheet that has no fault.
-    pub(crate) fn hold(&mut self, sheet: Vec<u8>)
-        requires { fault_of sheet.items ≡ None }
-        ensures { self.new.bytes.items ≡ sheet.items }
-    {
-        self.bytes = sheet;
-    }
-}
-
+// The tests of a state and of a letter are its own, as those of every kind of rule: each is one `if` and answers its own refusal.
 impl Rule for Table {
     ghost count = { λ t. (tabled (t.bytes.items)).count };
 
@@ -50,7 +34,7 @@ impl Rule for Table {
     ghost bounds = { λ t. tabled_lawful t.bytes.items t.closed };
 
     fn size(&self) -> Size {
-        header(&self.bytes)
+        Rows::of(&self.bytes).size
     }
 
     fn start_state(&self) -> usize {
@@ -58,21 +42,46 @@ impl Rule for Table {
     }
 
     fn kept_at(&self, state: usize) -> Result<bool, Fault> {
-        let size = header(&self.bytes);
-        if state >= size.states {
+        let rows = Rows::of(&self.bytes);
+        if state >= rows.size.states {
             return Err(Fault::no_state());
         }
-        Ok(kept_bit(&self.bytes, size, state))
+        Ok(rows.is_kept(state))
     }
 
     fn next_from(&self, state: usize, letter: usize) -> Result<usize, Fault> {
-        let size = header(&self.bytes);
-        if state >= size.states {
+        let rows = Rows::of(&self.bytes);
+        if state >= rows.size.states {
             return Err(Fault::no_state());
         }
-        if letter >= size.letters {
+        if letter >= rows.size.letters {
             return Err(Fault::no_letter(0));
         }
-        Ok(next_state(&self.bytes, size, state, letter))
+        Ok(rows.next(state, letter))
     }
 }
+
+impl Held for Table {
+    ghost form = { table_form };
+
+    ghost held = { λ t. t.bytes.items };
+
+    #[tactic(auto, using(crate::specs::Bounds::field_nil))]
+    fn empty(bytes: Vec<u8>) -> Table {
+        Table { bytes }
+    }
+
+    #[tactic(auto, using(crate::proofs::Checked::table_checked))]
+    fn first_fault(sheet: &[u8]) -> Result<(), Fault> {
+        check_table(sheet)
+    }
+
+    #[tactic(auto, using(crate::proofs::Strays::none_closed))]
+    fn hold(&mut self, sheet: Vec<u8>) {
+        self.bytes = sheet;
+    }
+
+    ghost means = { λ t. refl };
+}
+
+impl SheetRule for Table {}

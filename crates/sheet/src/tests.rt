@@ -1,8 +1,14 @@
-// Fields and sheets on examples.
+// Fields and sheets on examples. The two functions with contracts say what opening promises of each kind of sheet.
+ghost use Rattle.automaton.specs.Meanings.{meaning};
+ghost use Rattle.sheet.specs.Forms.{Opened};
+ghost use Rattle.sheet.specs.NfaOpening.{nfa_form};
+ghost use Rattle.sheet.specs.Opening.{table_form};
+
 use crate::bits::{read_field, write_field};
 use crate::nfa::Nfa;
+use crate::opening::SheetRule;
 use crate::table::Table;
-use crate::width::Width;
+use crate::width::{TooWide, Width};
 use automaton::fault::Fault;
 use automaton::kind::FaultKind;
 use automaton::layer::Layer;
@@ -11,6 +17,25 @@ use automaton::size::Size;
 use automaton::walk::keeps;
 use automaton::word::Word;
 use std::test::Fail;
+
+// The answer that refuses a sheet or a field.
+fn refusal<T>(kind: FaultKind) -> Result<T, Fault> {
+    Err(Fault::new(kind, Layer::Sheet))
+}
+
+// What opening promises of a table.
+fn replace_table(table: &mut Table, sheet: Vec<u8>) -> Result<(), Fault>
+    ensures { Opened table_form sheet.items table.old.bytes.items table.new.bytes.items (meaning ⟦<Table as Rule>⟧ table.new) result }
+{
+    table.replace(sheet)
+}
+
+// What opening promises of a nondeterministic automaton.
+fn replace_nfa(nfa: &mut Nfa, sheet: Vec<u8>) -> Result<(), Fault>
+    ensures { Opened nfa_form sheet.items nfa.old.bytes.items nfa.new.bytes.items (meaning ⟦<Nfa as Rule>⟧ nfa.new) result }
+{
+    nfa.replace(sheet)
+}
 
 // The words with an even number of the letter 0.
 const EVEN: [u8; 7] = [0x10, 0x06, 0x00, 0x80, 0x00, 0x00, 0x01];
@@ -50,37 +75,28 @@ fn refused(rt: HostRuntime) {
     let heap = rt.alloc();
     let mut table = Table::blank(heap);
     assert_eq!(rt; table.open(heap, &EVEN), Ok(()));
-    assert_eq!(rt;
-        table.open(heap, &[0x00]),
-        Err(Fault::new(FaultKind::Truncated, Layer::Sheet))
-    );
+    assert_eq!(rt; table.open(heap, &[0x00]), refusal(FaultKind::Truncated));
     assert_eq!(rt;
         table.open(heap, &[0x00, 0x02, 0x00]),
-        Err(Fault::new(FaultKind::WrongLength, Layer::Sheet))
+        refusal(FaultKind::WrongLength)
     );
     assert_eq!(rt;
         table.open(heap, &[0x00, 0x02, 0x00, 0x81]),
-        Err(Fault::new(
-            FaultKind::TargetOutOfRange {
-                state: 0,
-                letter: 0
-            },
-            Layer::Sheet
-        ))
+        refusal(FaultKind::TargetOutOfRange {
+            state: 0,
+            letter: 0
+        })
     );
     assert_eq!(rt;
         table.open(heap, &[0x10, 0x06, 0x00, 0x80, 0x00, 0x00, 0x02]),
-        Err(Fault::new(
-            FaultKind::TargetOutOfRange {
-                state: 1,
-                letter: 1
-            },
-            Layer::Sheet
-        ))
+        refusal(FaultKind::TargetOutOfRange {
+            state: 1,
+            letter: 1
+        })
     );
     assert_eq!(rt;
         table.open(heap, &[0x00, 0x02, 0x00, 0x01]),
-        Err(Fault::new(FaultKind::PaddingSet, Layer::Sheet))
+        refusal(FaultKind::PaddingSet)
     );
     assert_eq!(rt;
         table.size(),
@@ -95,7 +111,8 @@ fn refused(rt: HostRuntime) {
 #[test]
 fn written(rt: HostRuntime) {
     let mut sheet = [0; 7];
-    assert!(rt; Width::new(17).is_none());
+    assert!(rt; matches!(Width::try_from(16), Ok(_)));
+    assert!(rt; matches!(Width::try_from(17), Err(TooWide(17))));
     assert_eq!(rt; write_field(&mut sheet, 0, Width::of(4), 0xfff1), Ok(()));
     assert_eq!(rt; write_field(&mut sheet, 4, Width::of(10), 1), Ok(()));
     assert_eq!(rt;
@@ -107,11 +124,11 @@ fn written(rt: HostRuntime) {
     assert_eq!(rt; read_field(&sheet, 14, Width::of(11)), Ok(1025));
     assert_eq!(rt;
         write_field(&mut sheet, 50, Width::of(7), 0),
-        Err(Fault::new(FaultKind::Truncated, Layer::Sheet))
+        refusal(FaultKind::Truncated)
     );
     assert_eq!(rt;
         write_field(&mut sheet, usize::MAX, Width::of(1), 0),
-        Err(Fault::new(FaultKind::Truncated, Layer::Sheet))
+        refusal(FaultKind::Truncated)
     );
     assert_eq!(rt; sheet, EVEN);
 }
@@ -140,7 +157,7 @@ fn largest(rt: HostRuntime) -> Result<(), Fail> {
         write_field(&mut sheet, 14 + 161 * 1023, Width::of(1), 1),
         Ok(())
     );
-    assert_eq!(rt; table.replace(sheet), Ok(()));
+    assert_eq!(rt; replace_table(&mut table, sheet), Ok(()));
     assert_eq!(rt;
         table.size(),
         Size {
@@ -209,25 +226,22 @@ fn nfa_refused(rt: HostRuntime) {
     let heap = rt.alloc();
     let mut nfa = Nfa::blank(heap);
     assert_eq!(rt; nfa.open(heap, &[0x00, 0xe0]), Ok(()));
-    assert_eq!(rt;
-        nfa.open(heap, &[]),
-        Err(Fault::new(FaultKind::Truncated, Layer::Sheet))
-    );
+    assert_eq!(rt; nfa.open(heap, &[]), refusal(FaultKind::Truncated));
     assert_eq!(rt;
         nfa.open(heap, &[0x0a]),
-        Err(Fault::new(FaultKind::TooManyNfaStates, Layer::Sheet))
+        refusal(FaultKind::TooManyNfaStates)
     );
     assert_eq!(rt;
         nfa.open(heap, &[0x01, 0x94, 0x00]),
-        Err(Fault::new(FaultKind::WrongLength, Layer::Sheet))
+        refusal(FaultKind::WrongLength)
     );
     assert_eq!(rt;
         nfa.open(heap, &[0x00, 0xf0]),
-        Err(Fault::new(FaultKind::PaddingSet, Layer::Sheet))
+        refusal(FaultKind::PaddingSet)
     );
     assert_eq!(rt;
         nfa.open(heap, &[0x00, 0xe1]),
-        Err(Fault::new(FaultKind::PaddingSet, Layer::Sheet))
+        refusal(FaultKind::PaddingSet)
     );
     assert_eq!(rt;
         nfa.size(),
@@ -252,7 +266,7 @@ fn nfa_largest(rt: HostRuntime) -> Result<(), Fail> {
     assert_eq!(rt; write_field(&mut sheet, 18, Width::of(10), 1), Ok(()));
     assert_eq!(rt; write_field(&mut sheet, 178, Width::of(10), 1), Ok(()));
     assert_eq!(rt; write_field(&mut sheet, 1618, Width::of(10), 1), Ok(()));
-    assert_eq!(rt; nfa.replace(sheet), Ok(()));
+    assert_eq!(rt; replace_nfa(&mut nfa, sheet), Ok(()));
     assert_eq!(rt;
         nfa.size(),
         Size {

@@ -9,9 +9,9 @@
 --   ended_text    the line of the refusal that ended the list, which names its place; nothing if there was none
 --   sale_text     the lines of a sale, of the lots that were read and of how the reading ended
 --   Sale          the lines of a sale are added to what was printed before: those of what reading the catalogue to its end gives
---   Printed       all that is printed for a sheet and a catalogue: for a refused sheet its line and nothing else, and else the lines
---                 of the sale
---   NfaPrinted    the same for the sheet of a nondeterministic automaton
+--   PrintedBy     all that is printed for a catalogue and a sheet of this first fault and of this automaton: for a refused sheet its line
+--                 and nothing else, and else the lines of the sale
+--   Printed       all that is printed for a sheet of a form and a catalogue
 --   BuyerPrinted  the same for a buyer's sheet, of a table or of a nondeterministic automaton
 use Rattle.std.specs.Prelude.{◌≡◌, ℕ, ◌+◌, Bool, true, false, List, [], ◌++◌, Some, None, Ok, Err, vec_items, codes, decimal, sum_by, Option, Result}
 use Rattle.std.specs.List.{flat_map}
@@ -22,10 +22,9 @@ use Rattle.automaton.specs.Languages.{keeps_answer}
 use Rattle.automaton.specs.Words.{of_text}
 use Rattle.catalogue.specs.Lines.{LotValue}
 use Rattle.catalogue.specs.Listing.{Listed}
-use Rattle.sheet.specs.Layout.{tabled}
-use Rattle.sheet.specs.NfaLayout.{setwise}
-use Rattle.sheet.specs.NfaOpening.{nfa_fault}
-use Rattle.sheet.specs.Opening.{fault_of}
+use Rattle.sheet.specs.Forms.{Form}
+use Rattle.sheet.specs.NfaOpening.{nfa_form}
+use Rattle.sheet.specs.Opening.{table_form}
 use Rattle.trial.specs.declared.buyer.Buyer.{Buyer}
 use Rattle.trial.specs.declared.buyer.Buyer.TheVariants.{Table, Nfa}
 use Rattle.trial.specs.declared.tally.Tally.{Tally}
@@ -60,14 +59,23 @@ unknown_one (Ok true) = 0
 unknown_one (Ok false) = 0
 unknown_one (Err f) = 1
 
-abbrev pub tally_of : Automaton → List LotValue → Tally
+-- how many of each kind there are, as a tally has them
+pub record Counts : Type 0 where
+  pub kept : ℕ
+  pub dropped : ℕ
+  pub unknown : ℕ
+
+abbrev pub counts_of : Tally → Counts
+counts_of t = record { kept = t.kept; dropped = t.dropped; unknown = t.unknown }
+
+abbrev pub tally_of : Automaton → List LotValue → Counts
 tally_of m lots = record {
   kept = sum_by (λ lot. kept_one (answer_to m lot)) lots;
   dropped = sum_by (λ lot. dropped_one (answer_to m lot)) lots;
   unknown = sum_by (λ lot. unknown_one (answer_to m lot)) lots;
 }
 
-abbrev pub sum_text : Tally → List ℕ
+abbrev pub sum_text : Counts → List ℕ
 sum_text t =
     decimal (t.kept + t.dropped + t.unknown) ++ (codes " lots: " ++ (decimal t.kept ++ (codes " kept, " ++ (decimal t.dropped ++ (codes " dropped, " ++ (decimal t.unknown ++ codes " unknown\n"))))))
 
@@ -92,12 +100,9 @@ abbrev pub PrintedBy : Option Fault → Automaton → List ℕ → List ℕ → 
 PrintedBy (Some f) m text out = out ≡ refused_text f
 PrintedBy None m text out = Sale m text [] out
 
-abbrev pub Printed : List ℕ → List ℕ → List ℕ → Type 0
-Printed sheet text out = PrintedBy (fault_of sheet) (tabled sheet) text out
-
-abbrev pub NfaPrinted : List ℕ → List ℕ → List ℕ → Type 0
-NfaPrinted sheet text out = PrintedBy (nfa_fault sheet) (setwise sheet) text out
+abbrev pub Printed : Form → List ℕ → List ℕ → List ℕ → Type 0
+Printed form sheet text out = PrintedBy (form.fault sheet) (form.means sheet) text out
 
 abbrev pub BuyerPrinted : Buyer → List ℕ → List ℕ → Type 0
-BuyerPrinted (Table sheet) text out = Printed (vec_items sheet) text out
-BuyerPrinted (Nfa sheet) text out = NfaPrinted (vec_items sheet) text out
+BuyerPrinted (Table sheet) text out = Printed table_form (vec_items sheet) text out
+BuyerPrinted (Nfa sheet) text out = Printed nfa_form (vec_items sheet) text out

@@ -21,10 +21,7 @@ fn read_buyer(rt: &HostRuntime) -> io::Result<Buyer> {
 
 // The bytes of a file. A missing file counts as empty.
 fn read_or_empty(rt: &HostRuntime, path: &str) -> io::Result<Vec<u8>> {
-    match read_file(rt, path)? {
-        Some(bytes) => Ok(bytes),
-        None => Ok(Vec::new(rt.alloc())),
-    }
+    Ok(read_file(rt, path)?.unwrap_or(Vec::new(rt.alloc())))
 }
 
 // The bytes of a file, or none where it is missing.

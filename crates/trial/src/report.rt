@@ -1,111 +1,84 @@
-// The lines that a trial sale prints, added to what was printed before.
-ghost use Rattle.std.specs.Prelude.{◌≡◌, ◌+◌, ◌^◌, ◌<◌, ◌++◌, IfOk, string_bytes, codes, decimal, OnOk};
+// The lines that a trial sale prints, added to what was printed before. They are bytes and no text, since a mark is a part of the
+// catalogue's bytes, of which a text would have to be made first.
+ghost use Rattle.std.specs.Prelude.{◌≡◌, ◌++◌, IfSome, OnOk, Some};
 ghost use Rattle.catalogue.specs.Entries.{told};
-ghost use Rattle.trial.specs.Reports.{ended_text, lot_text, outcome, refused_text, sum_text};
+ghost use Rattle.trial.specs.Reports.{ended_text, lot_text, outcome, refused_text};
 
-use crate::tally::Tally;
 use automaton::fault::Fault;
 use catalogue::entry::Lot;
-use std::alloc::{AllocError, Global};
+use std::alloc::AllocError;
+use std::fmt;
 
 // What a lot's line says of an answer.
-fn outcome_text(heap: Global, answer: Result<bool, Fault>) -> Result<String, AllocError>
-    ensures { IfOk result (λ s. string_bytes s ≡ outcome answer) }
-{
-    match answer {
-        Ok(true) => String::from_str(heap, "kept"),
-        Ok(false) => String::from_str(heap, "dropped"),
-        Err(fault) => unknown_text(heap, fault.kind.place()),
+#[derive(Clone, Copy)]
+struct Outcome(Result<bool, Fault>);
+
+impl fmt::Display for Outcome {
+    ghost output = { λ o. Some (outcome o.0) };
+
+    fn fmt<W: fmt::Write>(&self, f: &mut fmt::Formatter<W>) -> fmt::Result {
+        match self.0 {
+            Ok(true) => f.write_str("kept"),
+            Ok(false) => f.write_str("dropped"),
+            Err(fault) => {
+                let position = fault.kind.place();
+                write!(f, "unknown letter at {position}")
+            }
+        }
     }
 }
 
-// What it says of a letter that the rule has not.
-fn unknown_text(heap: Global, place: usize) -> Result<String, AllocError>
-    ensures { IfOk result (λ s. string_bytes s ≡ codes "unknown letter at " ++ decimal place) }
-{
-    format!(in heap; "unknown letter at {place}")
+// The line of a refused sheet.
+#[derive(Clone, Copy)]
+pub struct Refused(pub Fault);
+
+impl fmt::Display for Refused {
+    ghost output = { λ r. Some (refused_text r.0) };
+
+    fn fmt<W: fmt::Write>(&self, f: &mut fmt::Formatter<W>) -> fmt::Result {
+        let number = u8::from(self.0.kind);
+        write!(f, "refused {number}\n")
+    }
 }
 
-// What stands before the mark in a lot's line.
-fn lot_head(heap: Global, number: u32) -> Result<String, AllocError>
-    ensures { IfOk result (λ s. string_bytes s ≡ codes "LOT " ++ (decimal number ++ codes " ")) }
-{
-    format!(in heap; "LOT {number} ")
+// The line of the refusal that ended the list, if there was one.
+#[derive(Clone, Copy)]
+pub struct Ended(pub Option<Fault>);
+
+impl fmt::Display for Ended {
+    ghost output = { λ e. Some (ended_text e.0) };
+
+    fn fmt<W: fmt::Write>(&self, f: &mut fmt::Formatter<W>) -> fmt::Result {
+        let Some(fault) = self.0 else {
+            return Ok(());
+        };
+        let number = u8::from(fault.kind);
+        let place = fault.kind.place();
+        write!(f, "refused {number} at {place}\n")
+    }
 }
 
-// What stands behind the mark in a lot's line.
-fn lot_tail(heap: Global, answer: Result<bool, Fault>) -> Result<String, AllocError>
-    ensures { IfOk result (λ s. string_bytes s ≡ codes " " ++ (outcome answer ++ codes "\n")) }
+// Adds what a value displays.
+pub fn add<D: fmt::Display>(out: &mut Vec<u8>, shown: &D) -> Result<(), AllocError>
+    ensures { OnOk result (IfSome (D.output shown.now) (λ text. out.new.items ≡ out.old.items ++ text)) }
 {
-    let said = outcome_text(heap, answer)?;
-    format!(in heap; " {said}\n")
+    let text = shown.to_string(*out.allocator())?;
+    out.extend_from_slice(text.as_bytes())
 }
 
-// Three pieces, one after another.
-fn add_pieces(out: &mut Vec<u8>, head: &str, mark: &[u8], tail: &str) -> Result<(), AllocError>
-    ensures { OnOk result (out.new.items ≡ out.old.items ++ (head.now ++ (mark.now ++ tail.now))) }
-{
-    out.extend_from_slice(head.as_bytes())?;
-    out.extend_from_slice(mark)?;
-    out.extend_from_slice(tail.as_bytes())?;
-    Ok(())
-}
-
-// The line of a lot.
-pub fn write_lot(
-    heap: Global,
+// Adds the line of a lot.
+pub fn add_lot(
     out: &mut Vec<u8>,
     lot: &Lot<'_>,
     answer: Result<bool, Fault>,
 ) -> Result<(), AllocError>
     ensures { OnOk result (out.new.items ≡ out.old.items ++ lot_text (told lot.now) answer) }
 {
-    let head = lot_head(heap, lot.number)?;
-    let tail = lot_tail(heap, answer)?;
-    add_pieces(out, head.as_str(), lot.mark, tail.as_str())
-}
-
-// The last line, by itself.
-fn sum_line(heap: Global, tally: Tally) -> Result<String, AllocError>
-    requires { tally.kept + tally.dropped + tally.unknown < 2 ^ 64 }
-    ensures { IfOk result (λ s. string_bytes s ≡ sum_text tally) }
-{
-    let Tally {
-        kept,
-        dropped,
-        unknown,
-    } = tally;
-    let all = kept + dropped + unknown;
-    format!(in heap; "{all} lots: {kept} kept, {dropped} dropped, {unknown} unknown\n")
-}
-
-// The last line.
-pub fn write_sum(heap: Global, out: &mut Vec<u8>, tally: Tally) -> Result<(), AllocError>
-    requires { tally.kept + tally.dropped + tally.unknown < 2 ^ 64 }
-    ensures { OnOk result (out.new.items ≡ out.old.items ++ sum_text tally) }
-{
-    let line = sum_line(heap, tally)?;
-    out.extend_from_slice(line.as_bytes())
-}
-
-// The line of a refused sheet.
-pub fn write_refused(heap: Global, out: &mut Vec<u8>, fault: Fault) -> Result<(), AllocError>
-    ensures { OnOk result (out.new.items ≡ out.old.items ++ refused_text fault) }
-{
-    let number = u8::from(fault.kind);
-    let line = format!(in heap; "refused {number}\n")?;
-    out.extend_from_slice(line.as_bytes())
-}
-
-// The line of the refusal that ended the list, if there was one.
-pub fn write_end(heap: Global, out: &mut Vec<u8>, fault: Option<Fault>) -> Result<(), AllocError>
-    ensures { OnOk result (out.new.items ≡ out.old.items ++ ended_text fault) }
-{
-    let Some(fault) = fault else {
-        return Ok(());
-    };
-    let number = u8::from(fault.kind);
-    let place = fault.kind.place();
-    let line = format!(in heap; "refused {number} at {place}\n")?;
-    out.extend_from_slice(line.as_bytes())
+    let number = lot.number;
+    let outcome = Outcome(answer);
+    let head = format!(in *out.allocator(); "LOT {number} ")?;
+    let tail = format!(in *out.allocator(); " {outcome}\n")?;
+    out.extend_from_slice(head.as_bytes())?;
+    out.extend_from_slice(lot.mark)?;
+    out.extend_from_slice(tail.as_bytes())
 }

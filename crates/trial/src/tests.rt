@@ -1,6 +1,9 @@
 // Examples: whole reports, and which files are read.
 use crate::files::print_sale;
-use crate::sale::{report, report_nfa};
+use crate::sale::report;
+use sheet::nfa::Nfa;
+use sheet::opening::SheetRule;
+use sheet::table::Table;
 use std::fs;
 use std::process::Abort;
 use std::test::Fail;
@@ -9,34 +12,34 @@ use std::test::Fail;
 const EVEN: [u8; 7] = [0x10, 0x06, 0x00, 0x80, 0x00, 0x00, 0x01];
 
 // Whether the report for a sheet and a catalogue is as expected.
-fn prints(
+fn prints<S: SheetRule + Drop>(
     rt: &(impl Abort + AllocGlobal),
     sheet: &[u8],
     text: &[u8],
     expected: &[u8],
 ) -> Result<(), Fail> {
     let sheet = Vec::from_slice(rt.alloc(), sheet)?;
-    let out = report(rt.alloc(), sheet, text)?;
+    let out = report::<S>(rt.alloc(), sheet, text)?;
     assert!(rt; out.as_slice() == expected);
     Ok(())
 }
 
 #[test]
 fn sales(rt: HostRuntime) -> Result<(), Fail> {
-    prints(
+    prints::<Table>(
         &rt,
         &EVEN,
         b"LOT 17 abba\nLOT 18 ab\nLOT 19 ac\n",
         b"LOT 17 abba kept\nLOT 18 ab dropped\nLOT 19 ac unknown letter at 1\n3 lots: 1 kept, 1 dropped, 1 unknown\n",
     )?;
-    prints(&rt, &EVEN, b"", b"0 lots: 0 kept, 0 dropped, 0 unknown\n")
+    prints::<Table>(&rt, &EVEN, b"", b"0 lots: 0 kept, 0 dropped, 0 unknown\n")
 }
 
 #[test]
 fn refusals(rt: HostRuntime) -> Result<(), Fail> {
-    prints(&rt, b"", b"LOT 1 a\n", b"refused 1\n")?;
-    prints(&rt, &[0x00, 0x02, 0x00], b"LOT 1 a\n", b"refused 2\n")?;
-    prints(
+    prints::<Table>(&rt, b"", b"LOT 1 a\n", b"refused 1\n")?;
+    prints::<Table>(&rt, &[0x00, 0x02, 0x00], b"LOT 1 a\n", b"refused 2\n")?;
+    prints::<Table>(
         &rt,
         &EVEN,
         b"LOT 1 b\nLOT 2 a\nLOT 03 a\n",
@@ -44,28 +47,15 @@ fn refusals(rt: HostRuntime) -> Result<(), Fail> {
     )
 }
 
-// Whether the report for the sheet of a nondeterministic automaton and a catalogue is as expected.
-fn prints_nfa(
-    rt: &(impl Abort + AllocGlobal),
-    sheet: &[u8],
-    text: &[u8],
-    expected: &[u8],
-) -> Result<(), Fail> {
-    let sheet = Vec::from_slice(rt.alloc(), sheet)?;
-    let out = report_nfa(rt.alloc(), sheet, text)?;
-    assert!(rt; out.as_slice() == expected);
-    Ok(())
-}
-
 #[test]
 fn nfa_sales(rt: HostRuntime) -> Result<(), Fail> {
-    prints_nfa(
+    prints::<Nfa>(
         &rt,
         &[0x01, 0x94],
         b"LOT 1 a\nLOT 2 aa\nLOT 3 b\n",
         b"LOT 1 a kept\nLOT 2 aa dropped\nLOT 3 b unknown letter at 0\n3 lots: 1 kept, 1 dropped, 1 unknown\n",
     )?;
-    prints_nfa(&rt, &[0x0a], b"LOT 1 a\n", b"refused 11\n")
+    prints::<Nfa>(&rt, &[0x0a], b"LOT 1 a\n", b"refused 11\n")
 }
 
 // What a sale by the files that are there prints.

@@ -1,21 +1,28 @@
-use Rattle.std.proofs.Common.{ℕ, ◌+◌, ◌-◌, ◌*◌, get_or, sym, ap, ◌∙◌, arith}
-use Rattle.std.proofs.lemmas.List.{take_all}
-use Rattle.catalogue.specs.Lines.{value}
-use Rattle.catalogue.proofs.Values.{digit_lt, value_more, value_small}
+use Rattle.std.proofs.Common.{◌≡◌, ℕ, ◌+◌, ◌-◌, ◌*◌, ◌<◌, ◌≤◌, true, [], ◌∷◌, map, refl, Bor, rules, sym, ◌∙◌, ap, length}
+use Rattle.std.proofs.lemmas.Fn.{serves_by}
+use Rattle.std.proofs.lemmas.List.{map-append}
+use Rattle.std.specs.List.{AllByRecursion, fold}
+use Rattle.catalogue.specs.Lines.{digit, value}
+use Rattle.catalogue.proofs.Values.{fold_digits, value_push, room, Room}
 use Rattle.catalogue.proofs.line.number_of.Goals as goal
 
-pub overflow_mul-number : goal.overflow_mul-number
-overflow_mul-number c = let s = value_small c.args.digits.now c.loop-byte.byte-index c.requires.all c.requires.few (omega arith) in omega (arith, s)
-
-pub overflow_add-number : goal.overflow_add-number
-overflow_add-number c =
-    let s = value_small c.args.digits.now c.loop-byte.byte-index c.requires.all c.requires.few (omega arith) in
-    omega (arith, s, digit_lt (get_or c.args.digits.now c.loop-byte.byte-index 0) (c.requires.all c.loop-byte.byte-index (omega arith)))
-
-pub loop-byte-preserved : goal.loop-byte-preserved
-loop-byte-preserved c =
-    ap (λ (n : ℕ). n * 10 + (get_or c.args.digits.now c.loop-byte.byte-index 0 - 48)) c.loop-byte.invariant
-    ∙ sym (value_more c.args.digits.now c.loop-byte.byte-index (omega arith))
+pub fold-requires-clause-callable : goal.fold-requires-clause-callable
+fold-requires-clause-callable c =
+    let now = λ (y : Bor ℕ). y.now in
+    let few : length c.iter.result.rest.now ≤ 6 = search rules in
+    let all : AllByRecursion (λ b. digit b ≡ true) c.iter.result.rest.now = search rules in
+    serves_by _ (λ xs q. q.1 ≡ value (map now xs))
+    (λ xs q x v e k.
+    let added : v.1 ≡ q.1 * 10 + (x.now - 48) = search rules in
+    added ∙ ap (λ (n : ℕ). n * 10 + (x.now - 48)) e ∙ sym (value_push (map now xs) x.now) ∙ ap value (sym (map-append now xs (x ∷ []))))
+    _ _ _ _ refl
+    (λ xs t q x u y k e.
+    let fit : Room (value (map now xs)) x.now = room c.iter.result t u xs x few all y k in
+    let low : 48 ≤ x.now = fit.low in
+    let small : q.1 * 10 + (x.now - 48) < 1000000 = rw e fit.small in
+    search rules)
 
 pub returns : goal.returns
-returns c = c.loop-byte.invariant ∙ ap value (take_all c.loop-byte.byte-index c.args.digits.now (omega arith))
+returns c =
+    let folded : c.fold.result ≡ fold (λ n b. n * 10 + (b - 48)) 0 c.args.digits.now = search rules in
+    folded ∙ fold_digits 0 c.args.digits.now

@@ -1,11 +1,5 @@
-use Rattle.std.proofs.Common.{refl}
-use Rattle.automaton.specs.Meanings.{meaning}
 use Rattle.combine.proofs.Kept.{intersects}
 use Rattle.combine.proofs.intersection.Intersection.new.Goals as goal
 
-pub returns : goal.returns
-returns g c = record {
-  first = refl;
-  second = refl;
-  law = λ d e. intersects (meaning g.A.Rule c.args.first) (meaning g.B.Rule c.args.second) (g.B.Rule.bounds c.args.second);
-}
+pub returns-clause-law : goal.returns-clause-law
+returns-clause-law g c = intersects _ _ (g.B.Rule.bounds c.args.second)
