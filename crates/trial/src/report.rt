@@ -1,6 +1,6 @@
 // The lines that a trial sale prints, added to what was printed before. They are bytes and no text, since a mark is a part of the
 // catalogue's bytes, of which a text would have to be made first.
-ghost use Rattle.std.specs.Prelude.{◌≡◌, ◌++◌, IfSome, OnOk, Some};
+ghost use Rattle.std.specs.Prelude.{◌≡◌, ◌++◌, IfSome, OnErr, OnOk, Some, length, take};
 ghost use Rattle.catalogue.specs.Entries.{told};
 ghost use Rattle.trial.specs.Reports.{ended_text, lot_text, outcome, refused_text};
 
@@ -60,7 +60,8 @@ impl fmt::Display for Ended {
 
 // Adds what a value displays.
 pub fn add<D: fmt::Display>(out: &mut Vec<u8>, shown: &D) -> Result<(), AllocError>
-    ensures { OnOk result (IfSome (D.output shown.now) (λ text. out.new.items ≡ out.old.items ++ text)) }
+    ensures ok { OnOk result (IfSome (D.output shown.now) (λ text. out.new.items ≡ out.old.items ++ text)) }
+    ensures err { OnErr result (out.new.items ≡ out.old.items) }
 {
     let text = shown.to_string(*out.allocator())?;
     out.extend_from_slice(text.as_bytes())
@@ -72,7 +73,8 @@ pub fn add_lot(
     lot: &Lot<'_>,
     answer: Result<bool, Fault>,
 ) -> Result<(), AllocError>
-    ensures { OnOk result (out.new.items ≡ out.old.items ++ lot_text (told lot.now) answer) }
+    ensures ok { OnOk result (out.new.items ≡ out.old.items ++ lot_text (told lot.now) answer) }
+    ensures front { take (length out.old.items) out.new.items ≡ out.old.items }
 {
     let number = lot.number;
     let outcome = Outcome(answer);

@@ -1,5 +1,5 @@
 // A trial sale: the lots of a catalogue, sorted by the rule on a buyer's sheet.
-ghost use Rattle.std.specs.Prelude.{◌≡◌, ◌+◌, ◌++◌, length, IfOk, OnOk};
+ghost use Rattle.std.specs.Prelude.{◌≡◌, ◌+◌, ◌++◌, length, IfOk, OnOk, take};
 ghost use Rattle.automaton.specs.Meanings.{meaning};
 ghost use Rattle.catalogue.specs.Listing.{values};
 ghost use Rattle.trial.specs.Reports.{BuyerPrinted, counts_of, lots_text, Printed, Sale, tally_of};
@@ -22,6 +22,7 @@ fn add_lots<R: Rule>(out: &mut Vec<u8>, rule: &R, lots: &[Lot<'_>]) -> Result<Ta
     ensures out { OnOk result (out.new.items ≡ out.old.items ++ lots_text (meaning R.Rule rule.now) (values lots.now)) }
     ensures tally { IfOk result (λ t. counts_of t ≡ tally_of (meaning R.Rule rule.now) (values lots.now)) }
     ensures sum { IfOk result (λ t. t.kept + t.dropped + t.unknown ≡ length lots.now) }
+    ensures front { take (length out.old.items) out.new.items ≡ out.old.items }
 {
     let mut tally = Tally {
         kept: 0,
@@ -38,7 +39,8 @@ fn add_lots<R: Rule>(out: &mut Vec<u8>, rule: &R, lots: &[Lot<'_>]) -> Result<Ta
 
 // The lines of a sale: those of the lots, that of a refusal which ended the list, and the last one.
 fn add_sale<R: Rule>(out: &mut Vec<u8>, rule: &R, text: &[u8]) -> Result<(), AllocError>
-    ensures { OnOk result (Sale (meaning R.Rule rule.now) text.now out.old.items out.new.items) }
+    ensures sale { OnOk result (Sale (meaning R.Rule rule.now) text.now out.old.items out.new.items) }
+    ensures front { take (length out.old.items) out.new.items ≡ out.old.items }
 {
     let listing = list_lots(*out.allocator(), text)?;
     let tally = add_lots(out, rule, listing.lots.as_slice())?;
