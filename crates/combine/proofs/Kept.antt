@@ -1,14 +1,13 @@
 -- The words that a combination keeps.
-use Rattle.std.proofs.Common.{◌≡◌, ℕ, ◌+◌, ◌*◌, ◌<◌, ◌↔◌, List, [], ◌∷◌, refl, arith, rules}
+use Rattle.std.proofs.Common.{◌≡◌, ℕ, ◌+◌, ◌*◌, ◌<◌, ◌↔◌, List, [], ◌∷◌, refl, arith}
 use Rattle.std.proofs.lemmas.Grind.{common_steps}
 use Rattle.std.proofs.lemmas.Nat.{div-mul-add, mod-mul-add}
 use Rattle.automaton.specs.Automata.{Automaton, Lawful}
 use Rattle.automaton.specs.Languages.{Keeps}
 use Rattle.automaton.specs.Words.{Over, walk}
 use Rattle.automaton.proofs.Walks.{walk_below}
-use Rattle.combine.specs.Bounds.{complement_lawful}
-use Rattle.combine.specs.Combined.{beside, complement, difference, disjoint_union, intersection, product}
-use Rattle.combine.specs.Laws.{Beside, Complements, FitSum, Intersects, Paired, Subtracts, Unites, begun_at}
+use Rattle.combine.specs.Combined.{beside, disjoint_union, intersection, product}
+use Rattle.combine.specs.Laws.{Beside, FitSum, Intersects, Paired, Unites, begun_at}
 
 -- The product: a walk of pairs is a walk in each.
 record Walked (m n : Automaton) (w : List ℕ) (p q : ℕ) : Type 0 where
@@ -29,13 +28,6 @@ paired m n = grind (arith, common_steps, div-mul-add, mod-mul-add)
 
 pub intersects : (m n : Automaton) → Lawful n → Intersects m n (intersection m n)
 intersects m n k = grind (arith, common_steps, product_keeps, paired)
-
--- The difference.
-complements : (m : Automaton) → Complements m (complement m)
-complements m = search rules
-
-pub subtracts : (m n : Automaton) → Lawful n → Subtracts m n (difference m n)
-subtracts m n k = grind (arith, common_steps, intersects m (complement n) (complement_lawful n k), complements n)
 
 -- The disjoint union: a walk stays among the states of its own automaton.
 walk_first : (m n : Automaton) → Lawful m → (w : List ℕ) (p : ℕ) → p < m.count → Over m.letters w → walk (beside m n) p w ≡ walk m p w

@@ -13,8 +13,11 @@ use automaton::size::Size;
 
 // The rule that keeps what one keeps and another, the struck one, drops: the intersection of the one and the complement of the
 // other.
-#[derive(Clone, Copy, Drop)]
-pub struct Difference<A, B> {
+#[derive(Drop)]
+pub struct Difference<A: Rule, B: Rule>
+where
+    Complement<B>: Rule,
+{
     pub pair: Intersection<A, Complement<B>>,
 }
 
@@ -24,25 +27,22 @@ impl<A: Rule, B: Rule> Difference<A, B> {
 
     // The rule that keeps what the first keeps and the struck one drops; the blank rule where they do not fit.
     pub fn new(first: A, struck: B) -> Difference<A, B>
-        ensures first { result.pair.first ≡ first }
-        ensures struck { result.pair.second.rule ≡ struck }
+        ensures first { result.pair.first.rule ≡ first }
+        ensures struck { result.pair.second.rule.rule ≡ struck }
         ensures law { Subtracts (meaning A.Rule first) (meaning B.Rule struck) (meaning ⟦<Difference<A, B> as Rule>⟧ result) }
     {
         Difference {
-            pair: Intersection {
-                first,
-                second: Complement { rule: struck },
-            },
+            pair: Intersection::new(first, Complement::new(struck)),
         }
     }
 }
 
 impl<A: Rule, B: Rule> Fits for Difference<A, B> {
-    ghost first = { λ c. meaning A.Rule c.pair.first };
+    ghost first = { λ c. meaning A.Rule c.pair.first.rule };
 
-    ghost second = { λ c. meaning B.Rule c.pair.second.rule };
+    ghost second = { λ c. meaning B.Rule c.pair.second.rule.rule };
 
-    ghost states = { λ c. pairs (meaning A.Rule c.pair.first) (meaning B.Rule c.pair.second.rule) };
+    ghost states = { λ c. pairs (meaning A.Rule c.pair.first.rule) (meaning B.Rule c.pair.second.rule.rule) };
 
     fn sizes(&self) -> Sizes {
         self.pair.sizes()
@@ -51,17 +51,17 @@ impl<A: Rule, B: Rule> Fits for Difference<A, B> {
 
 // Each question goes to the pair. The type is there for its law and for the names of its parts.
 impl<A: Rule, B: Rule> Rule for Difference<A, B> {
-    ghost count = { λ c. (difference (meaning A.Rule c.pair.first) (meaning B.Rule c.pair.second.rule)).count };
+    ghost count = { λ c. (difference (meaning A.Rule c.pair.first.rule) (meaning B.Rule c.pair.second.rule.rule)).count };
 
-    ghost letters = { λ c. (difference (meaning A.Rule c.pair.first) (meaning B.Rule c.pair.second.rule)).letters };
+    ghost letters = { λ c. (difference (meaning A.Rule c.pair.first.rule) (meaning B.Rule c.pair.second.rule.rule)).letters };
 
-    ghost start = { λ c. (difference (meaning A.Rule c.pair.first) (meaning B.Rule c.pair.second.rule)).start };
+    ghost start = { λ c. (difference (meaning A.Rule c.pair.first.rule) (meaning B.Rule c.pair.second.rule.rule)).start };
 
-    ghost kept = { λ c. (difference (meaning A.Rule c.pair.first) (meaning B.Rule c.pair.second.rule)).kept };
+    ghost kept = { λ c. (difference (meaning A.Rule c.pair.first.rule) (meaning B.Rule c.pair.second.rule.rule)).kept };
 
-    ghost next = { λ c. (difference (meaning A.Rule c.pair.first) (meaning B.Rule c.pair.second.rule)).next };
+    ghost next = { λ c. (difference (meaning A.Rule c.pair.first.rule) (meaning B.Rule c.pair.second.rule.rule)).next };
 
-    ghost bounds = { λ c. difference_lawful (meaning A.Rule c.pair.first) (meaning B.Rule c.pair.second.rule) (A.Rule.bounds c.pair.first) (B.Rule.bounds c.pair.second.rule) };
+    ghost bounds = { λ c. difference_lawful (meaning A.Rule c.pair.first.rule) (meaning B.Rule c.pair.second.rule.rule) (A.Rule.bounds c.pair.first.rule) (B.Rule.bounds c.pair.second.rule.rule) };
 
     fn size(&self) -> Size {
         self.pair.size()

@@ -5,6 +5,7 @@ ghost use Rattle.combine.specs.Bounds.{disjoint_union_lawful};
 ghost use Rattle.combine.specs.Combined.{disjoint_union, sum};
 
 use crate::fits::Fits;
+use crate::part::Part;
 use crate::sizes::Sizes;
 use automaton::blank::Blank;
 use automaton::fault::Fault;
@@ -12,10 +13,10 @@ use automaton::rule::Rule;
 use automaton::size::Size;
 
 // The rule that has the states of both, the second's raised by the number of the first's. Its start is the first's.
-#[derive(Clone, Copy, Drop)]
-pub struct DisjointUnion<A, B> {
-    pub first: A,
-    pub second: B,
+#[derive(Drop)]
+pub struct DisjointUnion<A: Rule, B: Rule> {
+    pub first: Part<A>,
+    pub second: Part<B>,
 }
 
 impl<A: Rule, B: Rule> DisjointUnion<A, B> {
@@ -23,24 +24,27 @@ impl<A: Rule, B: Rule> DisjointUnion<A, B> {
 
     // The rule that has the states of both, and starts as the first; the blank rule where they do not fit.
     pub fn new(first: A, second: B) -> DisjointUnion<A, B>
-        ensures first { result.first ≡ first }
-        ensures second { result.second ≡ second }
+        ensures first { result.first.rule ≡ first }
+        ensures second { result.second.rule ≡ second }
         ensures law { Unites (meaning A.Rule first) (meaning B.Rule second) (meaning ⟦<DisjointUnion<A, B> as Rule>⟧ result) }
     {
-        DisjointUnion { first, second }
+        DisjointUnion {
+            first: Part::new(first),
+            second: Part::new(second),
+        }
     }
 }
 
 impl<A: Rule, B: Rule> Fits for DisjointUnion<A, B> {
-    ghost first = { λ c. meaning A.Rule c.first };
+    ghost first = { λ c. meaning A.Rule c.first.rule };
 
-    ghost second = { λ c. meaning B.Rule c.second };
+    ghost second = { λ c. meaning B.Rule c.second.rule };
 
-    ghost states = { λ c. sum (meaning A.Rule c.first) (meaning B.Rule c.second) };
+    ghost states = { λ c. sum (meaning A.Rule c.first.rule) (meaning B.Rule c.second.rule) };
 
     fn sizes(&self) -> Sizes {
-        let first = self.first.size();
-        let second = self.second.size();
+        let first = self.first.size;
+        let second = self.second.size;
         Sizes {
             first,
             second,
@@ -52,17 +56,17 @@ impl<A: Rule, B: Rule> Fits for DisjointUnion<A, B> {
 // Where the rules do not fit, each answer is the blank rule's. Each says so itself: a type that says it once would be longer than what it
 // saves.
 impl<A: Rule, B: Rule> Rule for DisjointUnion<A, B> {
-    ghost count = { λ c. (disjoint_union (meaning A.Rule c.first) (meaning B.Rule c.second)).count };
+    ghost count = { λ c. (disjoint_union (meaning A.Rule c.first.rule) (meaning B.Rule c.second.rule)).count };
 
-    ghost letters = { λ c. (disjoint_union (meaning A.Rule c.first) (meaning B.Rule c.second)).letters };
+    ghost letters = { λ c. (disjoint_union (meaning A.Rule c.first.rule) (meaning B.Rule c.second.rule)).letters };
 
-    ghost start = { λ c. (disjoint_union (meaning A.Rule c.first) (meaning B.Rule c.second)).start };
+    ghost start = { λ c. (disjoint_union (meaning A.Rule c.first.rule) (meaning B.Rule c.second.rule)).start };
 
-    ghost kept = { λ c. (disjoint_union (meaning A.Rule c.first) (meaning B.Rule c.second)).kept };
+    ghost kept = { λ c. (disjoint_union (meaning A.Rule c.first.rule) (meaning B.Rule c.second.rule)).kept };
 
-    ghost next = { λ c. (disjoint_union (meaning A.Rule c.first) (meaning B.Rule c.second)).next };
+    ghost next = { λ c. (disjoint_union (meaning A.Rule c.first.rule) (meaning B.Rule c.second.rule)).next };
 
-    ghost bounds = { λ c. disjoint_union_lawful (meaning A.Rule c.first) (meaning B.Rule c.second) (A.Rule.bounds c.first) (B.Rule.bounds c.second) };
+    ghost bounds = { λ c. disjoint_union_lawful (meaning A.Rule c.first.rule) (meaning B.Rule c.second.rule) (A.Rule.bounds c.first.rule) (B.Rule.bounds c.second.rule) };
 
     fn size(&self) -> Size {
         self.sizes().combined()
@@ -72,7 +76,7 @@ impl<A: Rule, B: Rule> Rule for DisjointUnion<A, B> {
         if self.fits().is_err() {
             return Blank.start_state();
         }
-        self.first.start_state()
+        self.first.rule.start_state()
     }
 
     fn kept_at(&self, state: usize) -> Result<bool, Fault> {
@@ -81,9 +85,9 @@ impl<A: Rule, B: Rule> Rule for DisjointUnion<A, B> {
         };
         let n = sizes.first.states;
         if state < n {
-            return self.first.kept_at(state);
+            return self.first.rule.kept_at(state);
         }
-        self.second.kept_at(state - n)
+        self.second.rule.kept_at(state - n)
     }
 
     fn next_from(&self, state: usize, letter: usize) -> Result<usize, Fault> {
@@ -92,9 +96,9 @@ impl<A: Rule, B: Rule> Rule for DisjointUnion<A, B> {
         };
         let n = sizes.first.states;
         if state < n {
-            return self.first.next_from(state, letter);
+            return self.first.rule.next_from(state, letter);
         }
-        let to = self.second.next_from(state - n, letter)?;
+        let to = self.second.rule.next_from(state - n, letter)?;
         Ok(n + to)
     }
 }

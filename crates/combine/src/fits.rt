@@ -17,7 +17,7 @@ pub trait Fits {
     // How many states the combination has if they fit.
     ghost states: { Self → ℕ };
 
-    // The sizes of the two rules, each of which is asked once, and how many states the combination has if they fit.
+    // The sizes of the two rules, and how many states the combination has if they fit.
     fn sizes(&self) -> Sizes
         ensures { AreSizes (first self.now) (second self.now) (states self.now) result };
 

@@ -5,6 +5,7 @@ ghost use Rattle.combine.specs.Bounds.{intersection_lawful};
 ghost use Rattle.combine.specs.Combined.{intersection, pairs};
 
 use crate::fits::Fits;
+use crate::part::Part;
 use crate::sizes::Sizes;
 use automaton::blank::Blank;
 use automaton::fault::Fault;
@@ -12,10 +13,10 @@ use automaton::rule::Rule;
 use automaton::size::Size;
 
 // The rule that keeps what both keep, by pairs of their states.
-#[derive(Clone, Copy, Drop)]
-pub struct Intersection<A, B> {
-    pub first: A,
-    pub second: B,
+#[derive(Drop)]
+pub struct Intersection<A: Rule, B: Rule> {
+    pub first: Part<A>,
+    pub second: Part<B>,
 }
 
 impl<A: Rule, B: Rule> Intersection<A, B> {
@@ -23,24 +24,27 @@ impl<A: Rule, B: Rule> Intersection<A, B> {
 
     // The rule that keeps what both keep; the blank rule where they do not fit.
     pub fn new(first: A, second: B) -> Intersection<A, B>
-        ensures first { result.first ≡ first }
-        ensures second { result.second ≡ second }
+        ensures first { result.first.rule ≡ first }
+        ensures second { result.second.rule ≡ second }
         ensures law { Intersects (meaning A.Rule first) (meaning B.Rule second) (meaning ⟦<Intersection<A, B> as Rule>⟧ result) }
     {
-        Intersection { first, second }
+        Intersection {
+            first: Part::new(first),
+            second: Part::new(second),
+        }
     }
 }
 
 impl<A: Rule, B: Rule> Fits for Intersection<A, B> {
-    ghost first = { λ c. meaning A.Rule c.first };
+    ghost first = { λ c. meaning A.Rule c.first.rule };
 
-    ghost second = { λ c. meaning B.Rule c.second };
+    ghost second = { λ c. meaning B.Rule c.second.rule };
 
-    ghost states = { λ c. pairs (meaning A.Rule c.first) (meaning B.Rule c.second) };
+    ghost states = { λ c. pairs (meaning A.Rule c.first.rule) (meaning B.Rule c.second.rule) };
 
     fn sizes(&self) -> Sizes {
-        let first = self.first.size();
-        let second = self.second.size();
+        let first = self.first.size;
+        let second = self.second.size;
         Sizes {
             first,
             second,
@@ -52,17 +56,17 @@ impl<A: Rule, B: Rule> Fits for Intersection<A, B> {
 // Where the rules do not fit, each answer is the blank rule's. Each says so itself: a type that says it once would be longer than what it
 // saves.
 impl<A: Rule, B: Rule> Rule for Intersection<A, B> {
-    ghost count = { λ c. (intersection (meaning A.Rule c.first) (meaning B.Rule c.second)).count };
+    ghost count = { λ c. (intersection (meaning A.Rule c.first.rule) (meaning B.Rule c.second.rule)).count };
 
-    ghost letters = { λ c. (intersection (meaning A.Rule c.first) (meaning B.Rule c.second)).letters };
+    ghost letters = { λ c. (intersection (meaning A.Rule c.first.rule) (meaning B.Rule c.second.rule)).letters };
 
-    ghost start = { λ c. (intersection (meaning A.Rule c.first) (meaning B.Rule c.second)).start };
+    ghost start = { λ c. (intersection (meaning A.Rule c.first.rule) (meaning B.Rule c.second.rule)).start };
 
-    ghost kept = { λ c. (intersection (meaning A.Rule c.first) (meaning B.Rule c.second)).kept };
+    ghost kept = { λ c. (intersection (meaning A.Rule c.first.rule) (meaning B.Rule c.second.rule)).kept };
 
-    ghost next = { λ c. (intersection (meaning A.Rule c.first) (meaning B.Rule c.second)).next };
+    ghost next = { λ c. (intersection (meaning A.Rule c.first.rule) (meaning B.Rule c.second.rule)).next };
 
-    ghost bounds = { λ c. intersection_lawful (meaning A.Rule c.first) (meaning B.Rule c.second) (A.Rule.bounds c.first) (B.Rule.bounds c.second) };
+    ghost bounds = { λ c. intersection_lawful (meaning A.Rule c.first.rule) (meaning B.Rule c.second.rule) (A.Rule.bounds c.first.rule) (B.Rule.bounds c.second.rule) };
 
     fn size(&self) -> Size {
         self.sizes().combined()
@@ -72,7 +76,10 @@ impl<A: Rule, B: Rule> Rule for Intersection<A, B> {
         let Ok(sizes) = self.sizes().fitting() else {
             return Blank.start_state();
         };
-        sizes.number(self.first.start_state(), self.second.start_state())
+        sizes.number(
+            self.first.rule.start_state(),
+            self.second.rule.start_state(),
+        )
     }
 
     fn kept_at(&self, state: usize) -> Result<bool, Fault> {
@@ -80,8 +87,8 @@ impl<A: Rule, B: Rule> Rule for Intersection<A, B> {
             return Blank.kept_at(state);
         };
         let (p, q) = sizes.apart(state)?;
-        let first = self.first.kept_at(p)?;
-        let second = self.second.kept_at(q)?;
+        let first = self.first.rule.kept_at(p)?;
+        let second = self.second.rule.kept_at(q)?;
         Ok(first && second)
     }
 
@@ -90,8 +97,8 @@ impl<A: Rule, B: Rule> Rule for Intersection<A, B> {
             return Blank.next_from(state, letter);
         };
         let (p, q) = sizes.apart(state)?;
-        let first = self.first.next_from(p, letter)?;
-        let second = self.second.next_from(q, letter)?;
+        let first = self.first.rule.next_from(p, letter)?;
+        let second = self.second.rule.next_from(q, letter)?;
         Ok(sizes.number(first, second))
     }
 }

@@ -6,6 +6,7 @@ pub mod difference;
 pub mod disjoint_union;
 pub mod fits;
 pub mod intersection;
+pub mod part;
 pub mod sizes;
 #[cfg(test)]
 mod tests;

@@ -1,6 +1,6 @@
 // Examples, over rules that count one letter. The three functions with contracts say what `fits` promises in terms of the two rules,
 // for each kind of combination.
-ghost use Rattle.std.specs.Prelude.{◌+◌, ◌%◌, ◌<◌, ◌≤◌, if◌then◌else◌, ◌==◌, nat_eq};
+ghost use Rattle.std.specs.Prelude.{◌≡◌, ◌+◌, ◌%◌, ◌<◌, ◌≤◌, if◌then◌else◌, ◌==◌, nat_eq};
 ghost use Rattle.std.proofs.lemmas.Nat.{mod_below};
 ghost use Rattle.std.proofs.lemmas.Bool.{cond_both};
 ghost use Rattle.automaton.specs.Meanings.{meaning};
@@ -21,6 +21,7 @@ use automaton::side::Side;
 use automaton::size::Size;
 use automaton::walk::{keeps, walk};
 use automaton::word::Word;
+use std::cell::Cell;
 
 // The rule that counts the letter 0 up to a number of states and begins anew, and keeps the count 0.
 #[derive(Clone, Copy)]
@@ -79,6 +80,53 @@ impl Rule for Counter {
     }
 }
 
+// A rule with a count of the questions that it is asked.
+#[derive(Clone, Copy)]
+struct Asked<'a, R> {
+    rule: R,
+    questions: &'a Cell<usize>,
+}
+
+impl<R: Rule> Asked<'_, R> {
+    // The rule, to ask it a question.
+    fn ask(&self) -> &R
+        ensures { result.now ≡ self.now.rule }
+    {
+        self.questions.set(self.questions.get().wrapping_add(1));
+        &self.rule
+    }
+}
+
+impl<R: Rule> Rule for Asked<'_, R> {
+    ghost count = { λ c. R.count c.rule };
+
+    ghost letters = { λ c. R.letters c.rule };
+
+    ghost start = { λ c. R.start c.rule };
+
+    ghost kept = { λ c. R.kept c.rule };
+
+    ghost next = { λ c. R.next c.rule };
+
+    ghost bounds = { λ c. R.Rule.bounds c.rule };
+
+    fn size(&self) -> Size {
+        self.ask().size()
+    }
+
+    fn start_state(&self) -> usize {
+        self.ask().start_state()
+    }
+
+    fn kept_at(&self, state: usize) -> Result<bool, Fault> {
+        self.ask().kept_at(state)
+    }
+
+    fn next_from(&self, state: usize, letter: usize) -> Result<usize, Fault> {
+        self.ask().next_from(state, letter)
+    }
+}
+
 // The words with an even number of a.
 const EVEN: Counter = Counter {
     states: 2,
@@ -112,21 +160,21 @@ fn refused(kind: FaultKind) -> Result<(), Fault> {
 
 // Whether the rules of an intersection fit.
 fn intersection_fits<A: Rule, B: Rule>(combined: &Intersection<A, B>) -> Result<(), Fault>
-    ensures { Fitted (A.Rule.letters combined.now.first) (B.Rule.letters combined.now.second) (pairs (meaning A.Rule combined.now.first) (meaning B.Rule combined.now.second)) result }
+    ensures { Fitted (A.Rule.letters combined.now.first.rule) (B.Rule.letters combined.now.second.rule) (pairs (meaning A.Rule combined.now.first.rule) (meaning B.Rule combined.now.second.rule)) result }
 {
     combined.fits()
 }
 
 // Whether the rules of a disjoint union fit.
 fn union_fits<A: Rule, B: Rule>(combined: &DisjointUnion<A, B>) -> Result<(), Fault>
-    ensures { Fitted (A.Rule.letters combined.now.first) (B.Rule.letters combined.now.second) (sum (meaning A.Rule combined.now.first) (meaning B.Rule combined.now.second)) result }
+    ensures { Fitted (A.Rule.letters combined.now.first.rule) (B.Rule.letters combined.now.second.rule) (sum (meaning A.Rule combined.now.first.rule) (meaning B.Rule combined.now.second.rule)) result }
 {
     combined.fits()
 }
 
 // Whether the rules of a difference fit.
 fn difference_fits<A: Rule, B: Rule>(combined: &Difference<A, B>) -> Result<(), Fault>
-    ensures { Fitted (A.Rule.letters combined.now.pair.first) (B.Rule.letters combined.now.pair.second.rule) (pairs (meaning A.Rule combined.now.pair.first) (meaning B.Rule combined.now.pair.second.rule)) result }
+    ensures { Fitted (A.Rule.letters combined.now.pair.first.rule) (B.Rule.letters combined.now.pair.second.rule.rule) (pairs (meaning A.Rule combined.now.pair.first.rule) (meaning B.Rule combined.now.pair.second.rule.rule)) result }
 {
     combined.fits()
 }
@@ -239,12 +287,40 @@ fn misfits(rt: HostRuntime) {
     let all = Complement::new(misfit);
     assert_eq!(rt; keeps(&all, Word::Text(b"aaa")), Ok(true));
     assert_eq!(rt; keeps(&all, Word::Text(b"b")), Err(Fault::no_letter(0)));
-    let inner = Intersection::new(all, NARROW);
+    let inner = Intersection::new(&all, NARROW);
     assert_eq!(rt; inner.fits(), Ok(()));
     assert_eq!(rt; keeps(&inner, Word::Text(b"aa")), Ok(true));
     assert_eq!(rt; keeps(&inner, Word::Text(b"aaa")), Ok(false));
-    let outer = DisjointUnion::new(all, EVEN);
+    let outer = DisjointUnion::new(&all, EVEN);
     assert_eq!(rt; outer.fits(), refused(FaultKind::LettersDiffer));
     assert_eq!(rt; outer.size(), Blank.size());
     assert_eq!(rt; keeps(&outer, Word::Text(b"a")), Ok(false));
+}
+
+// How many questions the four questions to a rule become, by a count.
+fn questions<R: Rule>(rule: &R, count: &Cell<usize>) -> usize {
+    count.set(0);
+    let _ = rule.size();
+    let _ = rule.start_state();
+    let _ = rule.kept_at(0);
+    let _ = rule.next_from(0, 0);
+    count.get()
+}
+
+// A nest asks each of its rules for its size once, when it is made, and then one question at most for each that it is asked itself.
+#[test]
+fn questions_of_nests(rt: HostRuntime) {
+    let count = Cell::new(0);
+    let even = Asked {
+        rule: EVEN,
+        questions: &count,
+    };
+    let two = Intersection::new(even, even);
+    let three = Difference::new(even, two);
+    let four = Intersection::new(Complement::new(three), even);
+    assert_eq!(rt; count.get(), 4);
+    assert_eq!(rt; questions(&four, &count), 12);
+    let five = DisjointUnion::new(even, four);
+    assert_eq!(rt; count.get(), 13);
+    assert_eq!(rt; questions(&five, &count), 3);
 }
