@@ -2,8 +2,10 @@
 use Rattle.std.proofs.Common.{◌≡◌, ℕ, ◌+◌, ◌*◌, ◌<◌, ◌↔◌, List, [], ◌∷◌, refl, arith}
 use Rattle.std.proofs.lemmas.Grind.{common_steps}
 use Rattle.std.proofs.lemmas.Nat.{div-mul-add, mod-mul-add}
+use Rattle.automaton.specs.declared.rule.Rule.{Ghosts}
 use Rattle.automaton.specs.Automata.{Automaton, Lawful}
 use Rattle.automaton.specs.Languages.{Keeps}
+use Rattle.automaton.specs.Meanings.{meaning}
 use Rattle.automaton.specs.Words.{Over, walk}
 use Rattle.automaton.proofs.Walks.{walk_below}
 use Rattle.combine.specs.Combined.{beside, disjoint_union, intersection, product}
@@ -26,8 +28,11 @@ product_keeps m n k same w = grind (arith, common_steps, walk_product m n k same
 paired : (m n : Automaton) → Paired m n (product m n)
 paired m n = grind (arith, common_steps, div-mul-add, mod-mul-add)
 
-pub intersects : (m n : Automaton) → Lawful n → Intersects m n (intersection m n)
+intersects : (m n : Automaton) → Lawful n → Intersects m n (intersection m n)
 intersects m n k = grind (arith, common_steps, product_keeps, paired)
+
+pub rules_intersect : {S T : Type 0} (g : Ghosts S) (h : Ghosts T) (s : S) (t : T) → Intersects (meaning g s) (meaning h t) (intersection (meaning g s) (meaning h t))
+rules_intersect g h s t = intersects (meaning g s) (meaning h t) (h.bounds t)
 
 -- The disjoint union: a walk stays among the states of its own automaton.
 walk_first : (m n : Automaton) → Lawful m → (w : List ℕ) (p : ℕ) → p < m.count → Over m.letters w → walk (beside m n) p w ≡ walk m p w
@@ -54,10 +59,13 @@ lies m n h same = grind (arith, common_steps, keeps_first, keeps_second)
 made : (m n : Automaton) → FitSum m n → disjoint_union m n ≡ beside m n
 made m n f = grind (arith, common_steps)
 
-pub unites : (m n : Automaton) → Lawful m → Unites m n (disjoint_union m n)
+unites : (m n : Automaton) → Lawful m → Unites m n (disjoint_union m n)
 unites m n h = record {
   means = refl;
   beside = λ f. rw (made m n f) (lies m n h f.same);
   keeps = λ f. rw (made m n f) ((lies m n h f.same).first m.start h.begins);
   misfit = grind (arith, common_steps);
 }
+
+pub rules_unite : {S T : Type 0} (g : Ghosts S) (h : Ghosts T) (s : S) (t : T) → Unites (meaning g s) (meaning h t) (disjoint_union (meaning g s) (meaning h t))
+rules_unite g h s t = unites (meaning g s) (meaning h t) (g.bounds s)

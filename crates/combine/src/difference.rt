@@ -12,7 +12,7 @@ use automaton::rule::Rule;
 use automaton::size::Size;
 
 // The rule that keeps what one keeps and another, the struck one, drops: the intersection of the one and the complement of the
-// other.
+// other. The bound says what is true of every complement; the type of the field asks for it.
 #[derive(Drop)]
 pub struct Difference<A: Rule, B: Rule>
 where

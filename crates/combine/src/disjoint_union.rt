@@ -23,6 +23,7 @@ impl<A: Rule, B: Rule> DisjointUnion<A, B> {
     ghost use Rattle.combine.specs.Laws.{Unites};
 
     // The rule that has the states of both, and starts as the first; the blank rule where they do not fit.
+    #[tactic(auto, using(crate::proofs::Kept::rules_unite))]
     pub fn new(first: A, second: B) -> DisjointUnion<A, B>
         ensures first { result.first.rule ≡ first }
         ensures second { result.second.rule ≡ second }

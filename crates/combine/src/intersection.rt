@@ -23,6 +23,7 @@ impl<A: Rule, B: Rule> Intersection<A, B> {
     ghost use Rattle.combine.specs.Laws.{Intersects};
 
     // The rule that keeps what both keep; the blank rule where they do not fit.
+    #[tactic(auto, using(crate::proofs::Kept::rules_intersect))]
     pub fn new(first: A, second: B) -> Intersection<A, B>
         ensures first { result.first.rule ≡ first }
         ensures second { result.second.rule ≡ second }

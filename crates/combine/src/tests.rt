@@ -1,17 +1,19 @@
-// Examples, over rules that count one letter. The three functions with contracts say what `fits` promises in terms of the two rules,
-// for each kind of combination.
+// Examples, over rules that count one letter. The six functions with contracts say what `fits` and `sizes` promise in
+// terms of the two rules, for each kind of combination.
 ghost use Rattle.std.specs.Prelude.{◌≡◌, ◌+◌, ◌%◌, ◌<◌, ◌≤◌, if◌then◌else◌, ◌==◌, nat_eq};
 ghost use Rattle.std.proofs.lemmas.Nat.{mod_below};
 ghost use Rattle.std.proofs.lemmas.Bool.{cond_both};
 ghost use Rattle.automaton.specs.Meanings.{meaning};
 ghost use Rattle.combine.specs.Combined.{pairs, sum};
 ghost use Rattle.combine.specs.Laws.{Fitted};
+ghost use Rattle.combine.specs.Sizes.{AreSizes};
 
 use crate::complement::Complement;
 use crate::difference::Difference;
 use crate::disjoint_union::DisjointUnion;
 use crate::fits::Fits;
 use crate::intersection::Intersection;
+use crate::sizes::Sizes;
 use automaton::blank::Blank;
 use automaton::fault::Fault;
 use automaton::kind::FaultKind;
@@ -179,6 +181,27 @@ fn difference_fits<A: Rule, B: Rule>(combined: &Difference<A, B>) -> Result<(), 
     combined.fits()
 }
 
+// The sizes of an intersection.
+fn intersection_sizes<A: Rule, B: Rule>(combined: &Intersection<A, B>) -> Sizes
+    ensures { AreSizes (meaning A.Rule combined.now.first.rule) (meaning B.Rule combined.now.second.rule) (pairs (meaning A.Rule combined.now.first.rule) (meaning B.Rule combined.now.second.rule)) result }
+{
+    combined.sizes()
+}
+
+// The sizes of a disjoint union.
+fn union_sizes<A: Rule, B: Rule>(combined: &DisjointUnion<A, B>) -> Sizes
+    ensures { AreSizes (meaning A.Rule combined.now.first.rule) (meaning B.Rule combined.now.second.rule) (sum (meaning A.Rule combined.now.first.rule) (meaning B.Rule combined.now.second.rule)) result }
+{
+    combined.sizes()
+}
+
+// The sizes of a difference.
+fn difference_sizes<A: Rule, B: Rule>(combined: &Difference<A, B>) -> Sizes
+    ensures { AreSizes (meaning A.Rule combined.now.pair.first.rule) (meaning B.Rule combined.now.pair.second.rule.rule) (pairs (meaning A.Rule combined.now.pair.first.rule) (meaning B.Rule combined.now.pair.second.rule.rule)) result }
+{
+    combined.sizes()
+}
+
 #[test]
 fn complements(rt: HostRuntime) {
     let odd = Complement::new(EVEN);
@@ -235,6 +258,26 @@ fn fitting(rt: HostRuntime) {
     assert_eq!(rt;
         union_fits(&DisjointUnion::new(of_states(4096), NARROW)),
         refused(FaultKind::LettersDiffer)
+    );
+}
+
+// The sizes of two rules are told whether they fit or not.
+#[test]
+fn sizes(rt: HostRuntime) {
+    let pair = intersection_sizes(&Intersection::new(of_states(64), NARROW));
+    assert_eq!(rt;
+        (pair.first, pair.second, pair.states),
+        (of_states(64).size(), NARROW.size(), 128)
+    );
+    let sum = union_sizes(&DisjointUnion::new(of_states(64), NARROW));
+    assert_eq!(rt;
+        (sum.first, sum.second, sum.states),
+        (of_states(64).size(), NARROW.size(), 66)
+    );
+    let left = difference_sizes(&Difference::new(of_states(64), of_states(65)));
+    assert_eq!(rt;
+        (left.first, left.second, left.states),
+        (of_states(64).size(), of_states(65).size(), 4160)
     );
 }
 
@@ -298,16 +341,17 @@ fn misfits(rt: HostRuntime) {
 }
 
 // How many questions the four questions to a rule become, by a count.
-fn questions<R: Rule>(rule: &R, count: &Cell<usize>) -> usize {
+fn questions<R: Rule>(rule: &R, state: usize, count: &Cell<usize>) -> usize {
     count.set(0);
     let _ = rule.size();
     let _ = rule.start_state();
-    let _ = rule.kept_at(0);
-    let _ = rule.next_from(0, 0);
+    let _ = rule.kept_at(state);
+    let _ = rule.next_from(state, 0);
     count.get()
 }
 
-// A nest asks each of its rules for its size once, when it is made, and then one question at most for each that it is asked itself.
+// A nest asks each of its rules for its size once, as it is made, and then one question at most for each that it is asked itself. A
+// union asks the rule whose state it is.
 #[test]
 fn questions_of_nests(rt: HostRuntime) {
     let count = Cell::new(0);
@@ -319,8 +363,9 @@ fn questions_of_nests(rt: HostRuntime) {
     let three = Difference::new(even, two);
     let four = Intersection::new(Complement::new(three), even);
     assert_eq!(rt; count.get(), 4);
-    assert_eq!(rt; questions(&four, &count), 12);
+    assert_eq!(rt; questions(&four, 15, &count), 12);
     let five = DisjointUnion::new(even, four);
     assert_eq!(rt; count.get(), 13);
-    assert_eq!(rt; questions(&five, &count), 3);
+    assert_eq!(rt; questions(&five, 1, &count), 3);
+    assert_eq!(rt; questions(&five, 17, &count), 9);
 }
