@@ -1,0 +1,65 @@
+-- The search over single states.
+use Rattle.std.proofs.Common.{◌≡◌, ℕ, zero, suc, ◌+◌, ◌<◌, ◌≤◌, Bool, true, false, cond, ◌||◌, ◌==◌, ◌⊎◌, List, [], ◌∷◌, ◌++◌, length, refl, subst, ap, ◌∙◌, inl, inr, arith}
+use Rattle.std.proofs.lemmas.Bool.{eqb-true}
+use Rattle.std.proofs.lemmas.Grind.{common_steps}
+use Rattle.std.proofs.lemmas.List.{get_or_default}
+use Rattle.std.proofs.lemmas.List.Folds.{list_any-append, Any-from_list_any}
+use Rattle.explore.specs.declared.step_cell.StepCell.{StepCell}
+use Rattle.explore.specs.Search.{Kind, at}
+use Rattle.explore.specs.States.{noted_state, states, StatesLaw}
+use Rattle.explore.proofs.Order.{top}
+use Rattle.explore.proofs.Invariant.{LawfulKind}
+use Rattle.explore.proofs.Decided.{decided}
+
+-- how many states below n no cell has
+free : List StepCell → ℕ → ℕ
+free cells zero = 0
+free cells (suc n) = cond (noted_state cells n) 0 1 + free cells n
+
+free_none : (n : ℕ) → free [] n ≡ n
+unfolding free
+free_none zero = refl
+free_none (suc n) = omega (arith, free_none n)
+
+module _ (cells : List StepCell) (c : StepCell) where
+  more : (x : ℕ) → noted_state (cells ++ (c ∷ [])) x ≡ (noted_state cells x || c.state == x)
+  more x = list_any-append (λ d. d.state == x) cells (c ∷ []) ∙ grind (arith, common_steps)
+
+  free_below : (n : ℕ) → n ≤ c.state → free (cells ++ (c ∷ [])) n ≡ free cells n
+  unfolding free
+  free_below zero h = refl
+  free_below (suc n) h = let ih = free_below n (omega arith) in let m = more n in grind (arith, common_steps)
+
+  free_one : (n : ℕ) → c.state < n → noted_state cells c.state ≡ false → suc (free (cells ++ (c ∷ [])) n) ≡ free cells n
+  unfolding free
+  free_one zero h e = absurd (omega arith)
+  free_one (suc n) h e = go (top c.state n h) (λ k. free_one n k e)
+    where
+      go : (c.state ≡ n) ⊎ (c.state < n) → (c.state < n → suc (free (cells ++ (c ∷ [])) n) ≡ free cells n) →
+          suc (cond (noted_state (cells ++ (c ∷ [])) n) 0 1 + free (cells ++ (c ∷ [])) n) ≡ cond (noted_state cells n) 0 1 + free cells n
+      go (inl k) ih = let b = free_below n (omega arith) in let m = more n in grind (arith, common_steps)
+      go (inr k) ih = let i = ih k in let m = more n in grind (arith, common_steps)
+
+module _ (next : ℕ → ℕ → ℕ) (ends : ℕ → Bool) where
+  abbrev S : Kind
+  S = states next ends
+
+  noted_at : (cells : List StepCell) (x : ℕ) → noted_state cells x ≡ true → (j : ℕ) × (j < length cells) × ((at S cells j).state ≡ x)
+  noted_at cells x t = let r = Any-from_list_any (λ c. c.state == x) cells t in (r.0, r.2, ap (λ (c : StepCell). c.state) (get_or_default cells r.0 S.none r.1 r.2 ∙ r.3) ∙ eqb-true _ x r.4)
+
+  states_lawful : (n k : ℕ) → ((x a : ℕ) → x < n → a < k → next x a < n) → LawfulKind S k (λ x. x < n) (λ cells. free cells n)
+  states_lawful n k f = record {
+    item_noted = λ x i a. refl;
+    origin_noted = λ x i a. refl;
+    letter_noted = λ x i a. refl;
+    whole = λ c. refl;
+    in_step = λ x a h l. f x a l h;
+    seen_new = λ cells c ins i. let m = more cells c c.state in grind (arith, common_steps);
+    seen_more = λ cells c x t. let m = more cells c x in grind (arith, common_steps);
+    seen_goes = λ cells ins h x i t. let r = noted_at cells x t in subst (λ (y : ℕ). ends y ≡ false) r.2 (h r.0 r.1);
+    seen_step = λ old cells o ins h x a i l t. let r = noted_at old x t in subst (λ (y : ℕ). noted_state cells (next y a) ≡ true) r.2 (h r.0 a r.1 l);
+    room = λ cells x i a ins h e. free_one cells (record { state = x; origin = i; letter = a }) n h e;
+  }
+
+pub states_law : StatesLaw
+states_law m l ends x h = decided (states m.next ends) m.letters m.count (λ y. y < m.count) (λ cells. free cells m.count) x (states_lawful m.next ends m.count m.letters l.stays) h (omega (arith, free_none m.count))

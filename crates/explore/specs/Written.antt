@@ -1,0 +1,18 @@
+-- Written words: when the trail of a cell is written, and what a buffer holds afterwards.
+--   can_write    whether there is a cell i, and both buffers are long enough: the spare one has i bytes, and the word's has as many as are needed
+--   answered     how many letters were written, if any were to be
+--   over         a buffer to whose beginning a word was written; the bytes behind the word are as they were
+--   written      a buffer to whose beginning a word was written, if it was to be
+use Rattle.std.specs.Prelude.{ℕ, Bool, cond, List, ◌++◌, ◌&&◌, length, drop, Option, Some, None, nat_lt, nat_le}
+
+abbrev pub can_write : {C : Type 0} → List C → ℕ → List ℕ → List ℕ → ℕ → Bool
+can_write cells i spare word needed = nat_lt i (length cells) && (nat_le i (length spare) && nat_le needed (length word))
+
+abbrev pub answered : Bool → List ℕ → Option ℕ
+answered done w = cond done (Some (length w)) None
+
+abbrev pub over : List ℕ → List ℕ → List ℕ
+over w buffer = w ++ drop (length w) buffer
+
+abbrev pub written : Bool → List ℕ → List ℕ → List ℕ
+written done w buffer = cond done (over w buffer) buffer

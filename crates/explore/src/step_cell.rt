@@ -1,0 +1,23 @@
+// Cells of single states.
+use crate::cell::Cell;
+
+#[derive(Clone, Copy, PartialEq, Eq, Debug)]
+pub struct StepCell {
+    pub state: u16,
+    pub origin: u16,
+    pub letter: u8,
+}
+
+impl Cell for StepCell {
+    ghost came_from = { λ c. c.origin };
+
+    ghost came_by = { λ c. c.letter };
+
+    fn origin(&self) -> usize {
+        usize::from(self.origin)
+    }
+
+    fn letter(&self) -> u8 {
+        self.letter
+    }
+}
