@@ -1,0 +1,9 @@
+pub mod Counting
+pub mod Joins
+pub mod Labelling
+pub mod Pairs
+pub mod Seen
+pub mod Sizes
+pub mod Splice
+pub mod Standing
+pub mod Walk

@@ -1,0 +1,4 @@
+pub mod Labels
+pub mod Pairs
+pub mod Relations
+pub mod Rings
