@@ -80,7 +80,7 @@ module _ (S : Kind) (k n : ℕ) (In : S.Item → Type 0) (size : List S.Cell →
         let o = one_cell i (omega arith) (omega arith) m in
         rw (take-suc r.noted i S.none (omega arith), take-suc s.noted i S.none (omega arith), m, o) refl
 
-  -- an searched has no fewer cells than another
+  -- what is explored has no fewer cells than anything else that is
   not_fewer : (r s : Searched S.Cell) → Explored S k n x r → Explored S k n x s → length r.noted < length s.noted → ⊥
   not_fewer r s e f h = go r.word refl
     where

@@ -48,7 +48,7 @@ module _ (S : Kind) (k : ℕ) (In : S.Item → Type 0) (size : List S.Cell → �
   State I s = Going I s ⊎ Stopped s
 
   module _ (law : LawfulKind S k In size) (in₀ : In x₀) where
-    -- an item is come to from cell i, of which the letters below c are taken
+    -- an item is reached from cell i, of which the letters below c are taken
     met_next : (s : Progress S.Cell) (x : S.Item) (i c : ℕ) → c < k → Going (InRow S k In size x₀ x i c) s → State (InRow S k In size x₀ x i (suc c)) (met S s (S.step x c) i c)
     met_next s x i c h g = go (cases_Bool (S.seen s.noted (S.step x c))) (cases_Bool (S.ends (S.step x c)))
       where

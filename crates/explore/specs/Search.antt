@@ -1,26 +1,22 @@
--- The search: what it notes, in which order, and how it ends. Items are searched, from a first one on, by steps under letters; each item that is
--- come to is passed over if it was seen, or ends the search, or is noted in the next cell with the cell and the letter that it was come to by.
+-- The search: what it notes, in which order, and how it ends. Items are searched, from a first one on, by steps under letters. Each item that is
+-- reached is passed over if it was seen, or ends the search, or is noted in the next cell, with the cell and the letter that it was reached from and by.
 --   Kind         what a kind of search is known by: its cells and its items; the item, the origin and the letter of a cell, and the cell that has them; a
---                cell for numbers that have none; the step from an item under a letter; whether an item was seen, by the cells noted so far; whether an
+--                cell for numbers that have no cell; the step from an item under a letter; whether an item was seen, by the cells noted so far; whether an
 --                item ends the search
---   Progress     the cells noted so far; and the cell and the letter by which an item was come to that ended the search, if one was
---   Searched     the cells noted in the end; and the word by which an item was come to that ended the search, if one was
---   at           the cell of that number, if there is one
+--   Progress     the cells noted so far; and the cell and the letter from and by which an item was reached that ended the search, if one was
+--   Searched     the cells noted in the end; and the word by which an item was reached that ended the search, if one was
+--   at           the cell of that number, or `none`
 --   way          the trail of cell i
---   met          an item is come to, from this cell by this letter; an ended search stays as it is
+--   met          an item is reached, from this cell by this letter; an ended search stays as it is
 --   spread       the letters below c have been taken from cell i, which has the item x
 --   taken        the first h cells have been taken, in order, as far as there are so many, each with the letters from 0 upward
 --   begun        the first item is noted in cell 0, with origin 0 and letter 0
---   searched     what a progress comes to: its cells, and the trail of the cell and then the letter that ended the search
+--   searched     what a progress gives: its cells, and the trail of the cell and then the letter that ended the search
 --   explore      the search from a first item, over k letters, in which at most n cells are taken
 --   Unseen       a word over the letters leads from x to an item that these cells have not seen
 --   Ends         a word over the letters leads from x to an item that ends the search
---   Explored     what a search from x comes to, told by trails and words: it notes no more than n cells; the trail of each is the first word that leads to an
---                item unseen by the cells before it, and the cell has that item, which does not end the search; cell 0 has origin 0 and letter 0, and the
---                origin of every other cell stands before it; the trails rise; if no word was found, every word leads to an item that the cells have seen,
---                and none to one that ends the search; a word that was found is the first that leads to an unseen item, is the first that leads to one that
---                ends the search, and is no longer than the number of cells
---   Decided      it is explored, and nothing else is; so these statements alone settle what a search comes to
+--   Explored     what a search from x gives, told by trails and words
+--   Decided      it is explored, and nothing else is; so these statements alone settle what a search gives
 use Rattle.std.specs.Prelude.{◌≡◌, ℕ, zero, suc, ◌<◌, ◌≤◌, Bool, true, false, cond, ◌||◌, List, [], ◌∷◌, ◌++◌, length, take, fold, Option, Some, None, is_some, option_map, nat_lt, slice_index_or}
 use Rattle.automaton.specs.Words.{Over}
 use Rattle.explore.specs.Order.{Before, First}
@@ -82,17 +78,29 @@ module _ (S : Kind) where
     pub ends : S.ends (fold S.step x w) ≡ true
 
   pub record Explored (k n : ℕ) (x : S.Item) (r : Searched S.Cell) : Type 0 where
+    -- no more than n cells are noted
     pub few : length r.noted ≤ n
+    -- the trail of each cell is the first word that leads to an item unseen by the cells before it,
     pub next : (i : ℕ) → i < length r.noted → First (Unseen k x (take i r.noted)) (way r.noted i)
+    -- the cell has that item,
     pub leads : (i : ℕ) → i < length r.noted → fold S.step x (way r.noted i) ≡ S.item (at r.noted i)
+    -- and the item does not end the search
     pub goes_on : (i : ℕ) → i < length r.noted → S.ends (S.item (at r.noted i)) ≡ false
+    -- cell 0 has origin 0 and letter 0
     pub begins : 0 < length r.noted → (S.origin (at r.noted 0) ≡ 0) × (S.letter (at r.noted 0) ≡ 0)
+    -- the origin of every other cell stands before it
     pub back : (i : ℕ) → 0 < i → i < length r.noted → S.origin (at r.noted i) < i
+    -- the trails rise
     pub rising : (i j : ℕ) → i < j → j < length r.noted → Before (way r.noted i) (way r.noted j)
+    -- if no word was found, every word leads to an item that the cells have seen,
     pub all_seen : r.word ≡ None → (w : List ℕ) → Unseen k x r.noted w → ⊥
+    -- and none to one that ends the search
     pub none : r.word ≡ None → (w : List ℕ) → Ends k x w → ⊥
+    -- a word that was found is the first that leads to an unseen item,
     pub last : (w : List ℕ) → r.word ≡ Some w → First (Unseen k x r.noted) w
+    -- and the first that leads to one that ends the search,
     pub first : (w : List ℕ) → r.word ≡ Some w → First (Ends k x) w
+    -- and it is no longer than the number of cells
     pub short : (w : List ℕ) → r.word ≡ Some w → length w ≤ length r.noted
 
   pub record Decided (k n : ℕ) (x : S.Item) (r : Searched S.Cell) : Type 0 where

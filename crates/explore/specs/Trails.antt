@@ -1,5 +1,5 @@
--- Trails: how a cell was come to, read off the cells. Each cell has an origin, the cell that it was come to from, and a letter.
---   origin_of    the cell that cell i was come to from; an origin that does not stand before its cell counts as cell 0
+-- Trails: how a cell was reached, read off the cells. Each cell has an origin, the cell that it was reached from, and a letter.
+--   origin_of    the cell that cell i was reached from; an origin that does not stand before its cell counts as cell 0
 --   trail_in     the last letters of the trail of cell i, at most so many; a cell that is not there has origin 0 and letter 0
 --   trail        the letters on the way from cell 0 to cell i, cell 0's own letter left out, read off the cells' origins and letters
 --   trail_of     the same, where two functions read the origin and the letter of a cell

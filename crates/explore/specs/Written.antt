@@ -1,5 +1,5 @@
 -- Written words: when the trail of a cell is written, and what a buffer holds afterwards.
---   can_write    whether there is a cell i, and both buffers are long enough: the spare one has i bytes, and the word's has as many as are needed
+--   can_write    whether there is a cell i, and both buffers are long enough: the spare one has i bytes, and the word's has at least as many as are needed
 --   answered     how many letters were written, if any were to be
 --   over         a buffer to whose beginning a word was written; the bytes behind the word are as they were
 --   written      a buffer to whose beginning a word was written, if it was to be

@@ -1,17 +1,17 @@
 // What every cell of a search has beside the states in it.
 ghost use Rattle.std.specs.Prelude.{◌≡◌, ℕ};
 
-// A cell notes what a search has come to, with its origin, the number of the cell that it was come to from, and the letter that it was come to by.
+// A cell notes an item that a search has reached, with its origin, the number of the cell that it was reached from, and the letter that it was reached by.
 pub trait Cell {
-    ghost came_from: { Self → ℕ };
+    ghost reached_from: { Self → ℕ };
 
-    ghost came_by: { Self → ℕ };
+    ghost reached_by: { Self → ℕ };
 
-    // The number of the cell that this one was come to from.
+    // The number of the cell that this one was reached from.
     fn origin(&self) -> usize
-        ensures { result ≡ came_from self.now };
+        ensures { result ≡ reached_from self.now };
 
-    // The letter that it was come to by.
+    // The letter that it was reached by.
     fn letter(&self) -> u8
-        ensures { result ≡ came_by self.now };
+        ensures { result ≡ reached_by self.now };
 }

@@ -10,9 +10,9 @@ pub struct PairCell {
 }
 
 impl Cell for PairCell {
-    ghost came_from = { λ c. c.origin };
+    ghost reached_from = { λ c. c.origin };
 
-    ghost came_by = { λ c. c.letter };
+    ghost reached_by = { λ c. c.letter };
 
     fn origin(&self) -> usize {
         usize::from(self.origin)

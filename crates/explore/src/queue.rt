@@ -12,7 +12,7 @@ pub struct Queue<'a, T> {
 }
 
 impl<'a, T: Copy> Queue<'a, T> {
-    ghost use Rattle.std.specs.Prelude.{◌≡◌, ◌+◌, ◌++◌, ◌∷◌, [], cond, drop, is_some, slice_get};
+    ghost use Rattle.std.specs.Prelude.{◌≡◌, ◌+◌, ◌++◌, ◌∷◌, [], cond, drop, is_some, option_map, slice_get};
     ghost use Rattle.explore.specs.Queues.{further_cells, has_room, noted_cells};
 
     // A queue in which nothing is noted.
@@ -30,6 +30,7 @@ impl<'a, T: Copy> Queue<'a, T> {
     }
 
     // Notes a cell behind those that are noted. False if the slice is full, and then nothing changes.
+    #[must_use]
     pub fn note(&mut self, cell: T) -> bool
         ensures same_reference { self.new.cells.ghost_name ≡ self.old.cells.ghost_name }
         ensures answer { result ≡ has_room self.old }
@@ -45,10 +46,10 @@ impl<'a, T: Copy> Queue<'a, T> {
         true
     }
 
-    // Takes the first cell that is not taken yet. None if all that are noted are taken, and then nothing changes.
-    pub fn take(&mut self) -> Option<T>
+    // Takes the first cell that is not taken yet, with its number. None if all that are noted are taken, and then nothing changes.
+    pub fn take(&mut self) -> Option<(usize, T)>
         ensures same_reference { self.new.cells.ghost_name ≡ self.old.cells.ghost_name }
-        ensures answer { result ≡ slice_get (noted_cells self.old) self.old.taken }
+        ensures answer { result ≡ option_map (λ cell. (self.old.taken, cell)) (slice_get (noted_cells self.old) self.old.taken) }
         ensures noted { noted_cells self.new ≡ noted_cells self.old }
         ensures further { further_cells self.new ≡ further_cells self.old }
         ensures taken { self.new.taken ≡ cond (is_some result) (self.old.taken + 1) self.old.taken }
@@ -56,7 +57,7 @@ impl<'a, T: Copy> Queue<'a, T> {
         let taken = self.taken;
         let cell = self.get(taken)?;
         self.taken = taken + 1;
-        Some(cell)
+        Some((taken, cell))
     }
 
     // The noted cell of this number.

@@ -1,6 +1,7 @@
 // Examples: the queue over lent slices of both kinds of cells, and trails that are written into buffers. The functions with contracts say
 // what a lent slice holds when its queue is gone, and tie a trail to the fields of each kind of cell.
 ghost use Rattle.std.specs.Prelude.{◌≡◌, ◌≤◌, ◌<◌, ◌++◌, ◌∷◌, [], ◌==◌, length, drop, take, replicate, Some};
+ghost use Rattle.automaton.specs.Automata.{blank};
 ghost use Rattle.explore.specs.Queues.{noted_cells};
 ghost use Rattle.explore.specs.Search.{way};
 ghost use Rattle.explore.specs.States.{states};
@@ -18,29 +19,34 @@ fn note_pairs(
     a: PairCell,
     b: PairCell,
     c: PairCell,
-) -> (Option<PairCell>, Option<PairCell>)
+) -> (Option<(usize, PairCell)>, Option<(usize, PairCell)>)
     requires { 3 ≤ length cells.old }
-    ensures taken { result ≡ (Some a, Some b) }
+    ensures taken { result ≡ (Some (0, a), Some (1, b)) }
     ensures cells { cells.new ≡ (a ∷ (b ∷ (c ∷ []))) ++ drop 3 cells.old }
 {
     let mut queue = Queue::new(cells);
-    queue.note(a);
-    queue.note(b);
-    queue.note(c);
+    let _ = queue.note(a);
+    let _ = queue.note(b);
+    let _ = queue.note(c);
     let first = queue.take();
     let second = queue.take();
     (first, second)
 }
 
 // Notes as many of three cells as there is room for, and takes one back.
-fn note_steps(cells: &mut [StepCell], a: StepCell, b: StepCell, c: StepCell) -> Option<StepCell>
-    ensures taken { 0 < length cells.old → result ≡ Some a }
+fn note_steps(
+    cells: &mut [StepCell],
+    a: StepCell,
+    b: StepCell,
+    c: StepCell,
+) -> Option<(usize, StepCell)>
+    ensures taken { 0 < length cells.old → result ≡ Some (0, a) }
     ensures cells { cells.new ≡ take (length cells.old) (a ∷ (b ∷ (c ∷ []))) ++ drop 3 cells.old }
 {
     let mut queue = Queue::new(cells);
-    queue.note(a);
-    queue.note(b);
-    queue.note(c);
+    let _ = queue.note(a);
+    let _ = queue.note(b);
+    let _ = queue.note(c);
     queue.take()
 }
 
@@ -51,7 +57,7 @@ fn repeat(queue: &mut Queue<'_, StepCell>, cell: StepCell)
     ensures same_reference { queue.new.cells.ghost_name ≡ queue.old.cells.ghost_name }
     ensures cells { queue.new.cells.now ≡ replicate (length queue.old.cells.now) cell }
 {
-    while let Some(next) = queue.take() {
+    while let Some((_, next)) = queue.take() {
         if !queue.note(next) {
             break;
         }
@@ -77,7 +83,7 @@ fn write_pairs(cells: &[PairCell], at: usize, spare: &mut [u8], word: &mut [u8])
 
 // The trail of a single state's cell: the trail that the search over single states speaks of.
 fn write_steps(cells: &[StepCell], at: usize, spare: &mut [u8], word: &mut [u8]) -> Option<usize>
-    ensures { word.new ≡ written (can_write cells.now at spare.old word.old at) (way (states (λ x a. x) (λ x. x == 0)) cells.now at) word.old }
+    ensures { word.new ≡ written (can_write cells.now at spare.old word.old at) (way (states blank (λ x. x == 0)) cells.now at) word.old }
 {
     write_trail(cells, at, spare, word)
 }
@@ -106,15 +112,15 @@ fn cells_come_back_in_order(rt: HostRuntime) {
     assert_eq!(rt; queue.take(), None);
     assert_eq!(rt; queue.note(step(1)), true);
     assert_eq!(rt; queue.note(step(2)), true);
-    assert_eq!(rt; queue.take(), Some(step(1)));
+    assert_eq!(rt; queue.take(), Some((0, step(1))));
     assert_eq!(rt; queue.note(step(3)), true);
     assert_eq!(rt; queue.note(step(4)), false);
     assert_eq!(rt; queue.noted(), 3);
     assert_eq!(rt; queue.get(1), Some(step(2)));
     assert_eq!(rt; queue.get(3), None);
     assert_eq!(rt; queue.cells().len(), 3);
-    assert_eq!(rt; queue.take(), Some(step(2)));
-    assert_eq!(rt; queue.take(), Some(step(3)));
+    assert_eq!(rt; queue.take(), Some((1, step(2))));
+    assert_eq!(rt; queue.take(), Some((2, step(3))));
     assert_eq!(rt; queue.take(), None);
     assert_eq!(rt; cells, [step(1), step(2), step(3)]);
 }
@@ -123,7 +129,7 @@ fn cells_come_back_in_order(rt: HostRuntime) {
 fn further_cells_stay(rt: HostRuntime) {
     let mut cells = [pair(9, 9); 4];
     let taken = note_pairs(&mut cells, pair(1, 2), pair(3, 4), pair(5, 6));
-    assert_eq!(rt; taken, (Some(pair(1, 2)), Some(pair(3, 4))));
+    assert_eq!(rt; taken, (Some((0, pair(1, 2))), Some((1, pair(3, 4)))));
     assert_eq!(rt; cells, [pair(1, 2), pair(3, 4), pair(5, 6), pair(9, 9)]);
 }
 
@@ -132,7 +138,7 @@ fn a_full_slice_takes_no_more(rt: HostRuntime) {
     let mut cells = [step(9); 2];
     assert_eq!(rt;
         note_steps(&mut cells, step(1), step(2), step(3)),
-        Some(step(1))
+        Some((0, step(1)))
     );
     assert_eq!(rt; cells, [step(1), step(2)]);
     let mut none: [StepCell; 0] = [];

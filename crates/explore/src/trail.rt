@@ -13,9 +13,9 @@ pub fn write_trail<C: Cell>(
     spare: &mut [u8],
     word: &mut [u8],
 ) -> Option<usize>
-    ensures answer { result ≡ answered (can_write cells.now at spare.old word.old at) (trail_of C.came_from C.came_by cells.now at) }
-    ensures spare { spare.new ≡ written (can_write cells.now at spare.old word.old at) (reverse (trail_of C.came_from C.came_by cells.now at)) spare.old }
-    ensures word { word.new ≡ written (can_write cells.now at spare.old word.old at) (trail_of C.came_from C.came_by cells.now at) word.old }
+    ensures answer { result ≡ answered (can_write cells.now at spare.old word.old at) (trail_of C.reached_from C.reached_by cells.now at) }
+    ensures spare { spare.new ≡ written (can_write cells.now at spare.old word.old at) (reverse (trail_of C.reached_from C.reached_by cells.now at)) spare.old }
+    ensures word { word.new ≡ written (can_write cells.now at spare.old word.old at) (trail_of C.reached_from C.reached_by cells.now at) word.old }
 {
     if at >= cells.len() || at > spare.len() || at > word.len() {
         return None;
@@ -34,9 +34,9 @@ pub fn write_word<C: Cell>(
     spare: &mut [u8],
     word: &mut [u8],
 ) -> Option<usize>
-    ensures answer { result ≡ answered (can_write cells.now at spare.old word.old (at + 1)) (trail_of C.came_from C.came_by cells.now at ++ (last ∷ [])) }
-    ensures spare { spare.new ≡ written (can_write cells.now at spare.old word.old (at + 1)) (reverse (trail_of C.came_from C.came_by cells.now at)) spare.old }
-    ensures word { word.new ≡ written (can_write cells.now at spare.old word.old (at + 1)) (trail_of C.came_from C.came_by cells.now at ++ (last ∷ [])) word.old }
+    ensures answer { result ≡ answered (can_write cells.now at spare.old word.old (at + 1)) (trail_of C.reached_from C.reached_by cells.now at ++ (last ∷ [])) }
+    ensures spare { spare.new ≡ written (can_write cells.now at spare.old word.old (at + 1)) (reverse (trail_of C.reached_from C.reached_by cells.now at)) spare.old }
+    ensures word { word.new ≡ written (can_write cells.now at spare.old word.old (at + 1)) (trail_of C.reached_from C.reached_by cells.now at ++ (last ∷ [])) word.old }
 {
     if at >= word.len() {
         return None;
@@ -51,9 +51,9 @@ pub fn write_word<C: Cell>(
 fn read_back<C: Cell>(cells: &[C], at: usize, spare: &mut [u8]) -> usize
     requires there { at < length cells.now }
     requires room { at ≤ length spare.old }
-    ensures number { result ≡ length (trail_of C.came_from C.came_by cells.now at) }
+    ensures number { result ≡ length (trail_of C.reached_from C.reached_by cells.now at) }
     ensures short { result ≤ at }
-    ensures spare { spare.new ≡ over (reverse (trail_of C.came_from C.came_by cells.now at)) spare.old }
+    ensures spare { spare.new ≡ over (reverse (trail_of C.reached_from C.reached_by cells.now at)) spare.old }
 {
     let mut i = at;
     let mut n = 0;
@@ -65,11 +65,11 @@ fn read_back<C: Cell>(cells: &[C], at: usize, spare: &mut [u8]) -> usize
     n
 }
 
-// The cell that cell `i` was come to from.
+// The cell that cell `i` was reached from.
 #[tactic(auto, using(crate::proofs::Written::map_at))]
 fn origin_of<C: Cell>(cells: &[C], i: usize) -> usize
     requires { i < length cells.now }
-    ensures { result ≡ origin_of (map C.came_from cells.now) i }
+    ensures { result ≡ origin_of (map C.reached_from cells.now) i }
 {
     let origin = cells[i].origin();
     if origin < i { origin } else { 0 }

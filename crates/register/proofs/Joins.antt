@@ -4,7 +4,7 @@ use Rattle.std.proofs.lemmas.Bool.Decides.{nat_tests}
 use Rattle.std.proofs.lemmas.Bool.{and_from, and_parts, or_cases, or_left, or_right}
 use Rattle.register.specs.Relations.{Agree, EquivalenceOn, Joins, join}
 
--- How two states come to be joined: they were, or by way of x and y, in this order or the other.
+-- How two states got joined: they were, or by way of x and y, in this order or the other.
 pub data Route (J : ℕ → ℕ → Bool) (x y u v : ℕ) : Type 0 where
   before : Joins J u v → Route J x y u v
   over : Joins J u x → Joins J y v → Route J x y u v

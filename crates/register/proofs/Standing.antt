@@ -6,7 +6,7 @@ use Rattle.automaton.specs.Automata.{Automaton}
 use Rattle.automaton.specs.Words.{walk}
 use Rattle.automaton.proofs.Walks.{walk_below}
 use Rattle.register.specs.Relations.{Below, Holds, Joins, Smallest, classes}
-use Rattle.register.specs.Pairs.{AgreeLaw, ApartLaw, Held, IsSmallest, KeptLaw, Standing, kept_alike}
+use Rattle.register.specs.Pairs.{AgreeLaw, ApartLaw, Held, IsSmallest, KeptLaw, SmallestLaw, Standing, kept_alike}
 use Rattle.register.proofs.Counting.{classes_agree, classes_apart, classes_carry, classes_has}
 use Rattle.register.proofs.Joins.{join_agrees}
 
@@ -70,6 +70,16 @@ agree_law m l alike J L a = record {
       };
       unseparated = λ x y h k t. s.unseparated x y h k (back x y h k t);
     }
+
+pub smallest_law : SmallestLaw
+smallest_law m held = record {
+  equivalence = record {
+    itself = λ x hx E e h. e.equivalence.itself x hx;
+    turned = λ x y hx hy t E e h. e.equivalence.turned x y hx hy (t E e h);
+    chained = λ x y z hx hy hz t r E e h. e.equivalence.chained x y z hx hy hz (t E e h) (r E e h);
+  };
+  steps = λ x y a hx hy ha t E e h. e.steps x y a hx hy ha (t E e h);
+}
 
 pub kept_law : KeptLaw
 kept_law = record {

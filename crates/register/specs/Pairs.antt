@@ -7,17 +7,14 @@
 --   Standing     what J joins is a right-invariant equivalence, and no word separates states that it joins
 --   Led          the walks of a word over the letters lead from p and q to the pair of a cell
 --   IsSmallest   the test joins exactly what the smallest right-invariant equivalence joins that has a property
---   Held         J is what comparings have joined that began with these pairs, all of states that are there, and found no word: J joins exactly what the smallest
---                right-invariant equivalence joins that holds the pairs; no word separates states that it joins; and that equivalence has as many classes
---   Compared     what comparing p and q comes to, over what J joins: all that every search comes to; each cell's trail leads to its pair; a word that was
---                found is the first that separates p and q; if none was found, none does, and then the joins, those of J and of the noted pairs, stand again
---                and are the smallest right-invariant equivalence that has what J joins and joins p and q; if J was what some pairs hold, they are what (p, q)
---                and these pairs hold; and each noted pair has made one class fewer
---   PairsLaw     over every automaton, for all outcomes, over whatever was joined before, comparing any two states comes to that
---   Apart        J is what no pairs hold, and has as many classes as there are states
+--   Held         J is what comparings have joined that began with these pairs and found no word
+--   Compared     what comparing p and q gives, over what J joins
+--   PairsLaw     over every automaton, for all outcomes, over whatever was joined before, comparing any two states gives that
+--   Apart        J is `Held` with no pairs, and has as many classes as there are states
 --   ApartLaw     so it is with every test that joins each state to itself alone
---   Agreeing     what is said of J and of joins to it is said of L as well
+--   Agreeing     what stands of J, what is held by it, its joins and the number of its classes are those of L too
 --   AgreeLaw     so it is where J and L agree on the states
+--   SmallestLaw  the smallest right-invariant equivalence that holds some pairs is one
 --   KeptLaw      two states have equal outcomes exactly if both are kept or both are dropped, and to have equal outcomes is an equivalence
 use Rattle.std.specs.Prelude.{◌≡◌, ℕ, ◌+◌, ◌<◌, Bool, false, not, ◌↔◌, List, [], ◌∷◌, length, fold, None, Some, ◌==◌}
 use Rattle.std.specs.Bool.{beq}
@@ -65,19 +62,31 @@ abbrev pub IsSmallest : Automaton → ((ℕ → ℕ → Bool) → Type 0) → (�
 IsSmallest m Has L = (x y : ℕ) → x < m.count → y < m.count → Joins L x y ↔ Smallest m Has x y
 
 pub record Held (m : Automaton) (alike : ℕ → ℕ → Bool) (held : List (ℕ × ℕ)) (J : ℕ → ℕ → Bool) : Type 0 where
+  -- the states of the pairs are there
   pub below : Below m.count held
+  -- J is right-invariant, and no word separates states that it joins
   pub standing : Standing m alike J
+  -- it joins exactly what the smallest right-invariant equivalence joins that holds the pairs
   pub smallest : IsSmallest m (Holds held) J
+  -- which has as many classes as J
   pub counted : HasClasses m.count (Smallest m (Holds held)) (classes J m.count)
 
 pub record Compared (m : Automaton) (alike : ℕ → ℕ → Bool) (J : ℕ → ℕ → Bool) (p q : ℕ) (r : Searched PairCell) : Type 0 where
+  -- all that every search gives
   pub decided : Decided (pairs m alike J) m.letters m.count (p, q) r
+  -- the trail of each cell leads from p and q to its pair
   pub leads : (i : ℕ) → i < length r.noted → Led m p q (way (pairs m alike J) r.noted i) (at (pairs m alike J) r.noted i)
+  -- a word that was found is the first that separates p and q
   pub first : (w : List ℕ) → r.word ≡ Some w → First (Separates m alike p q) w
+  -- if none was found, no word separates them,
   pub unseparated : r.word ≡ None → (w : List ℕ) → Separates m alike p q w → ⊥
+  -- the joins, those of J and of the noted pairs, stand again,
   pub standing : r.word ≡ None → Standing m alike (joins J r.noted)
+  -- and are the smallest right-invariant equivalence that has what J joins and joins p and q;
   pub smallest : r.word ≡ None → IsSmallest m (λ E. Within m.count J E × Joins E p q) (joins J r.noted)
+  -- if J is `Held` with some pairs, they are `Held` with (p, q) and these pairs
   pub one_more : r.word ≡ None → (held : List (ℕ × ℕ)) → Held m alike held J → Held m alike ((p, q) ∷ held) (joins J r.noted)
+  -- each noted pair has made one class fewer
   pub counted : classes (joins J r.noted) m.count + length r.noted ≡ classes J m.count
 
 abbrev pub PairsLaw : Type 0
@@ -93,7 +102,7 @@ ApartLaw = (m : Automaton) → Lawful m → (alike : ℕ → ℕ → Bool) → E
 
 pub record Agreeing (m : Automaton) (alike : ℕ → ℕ → Bool) (J L : ℕ → ℕ → Bool) : Type 0 where
   pub standing : Standing m alike J → Standing m alike L
-  pub held : (pairs : List (ℕ × ℕ)) → Held m alike pairs J → Held m alike pairs L
+  pub held : (some : List (ℕ × ℕ)) → Held m alike some J → Held m alike some L
   pub joined : (x y : ℕ) → x < m.count → y < m.count → Agree m.count (join J x y) (join L x y)
   pub counted : classes J m.count ≡ classes L m.count
 
@@ -103,3 +112,6 @@ AgreeLaw = (m : Automaton) → Lawful m → (alike : ℕ → ℕ → Bool) (J L 
 pub record KeptLaw : Type 0 where
   pub says : (m : Automaton) (x y : ℕ) → Joins (kept_alike m) x y ↔ (m.kept x ≡ m.kept y)
   pub equivalence : (m : Automaton) → EquivalenceOn m.count (Joins (kept_alike m))
+
+abbrev pub SmallestLaw : Type 0
+SmallestLaw = (m : Automaton) (held : List (ℕ × ℕ)) → RightInvariant m (Smallest m (Holds held))

@@ -7,7 +7,7 @@
 --   Below            both states of each of the pairs are below n
 --   Holds            the test joins each of the pairs
 --   Smallest         every right-invariant equivalence with a property joins x and y: so does the smallest one that has it
---   join             the test with the classes of x and y made one
+--   join             what an equivalence J joins, and the class of x with that of y
 --   Agree            two tests agree on the states below n
 --   Representatives  the list has one state of each class, of the states below n: no state of it is related to a later one, and every state below n is
 --                    related to one of them

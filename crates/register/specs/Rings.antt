@@ -5,8 +5,8 @@
 --   Spliced      the states after p and q are exchanged, and every other state is followed by the same as before
 --   Added        under `label` stands the sum of the sizes under it and under `other`, and every other size is as before
 --   Keeps        the state after a state in its ring has its label
---   Way          a test that holds at a first state, and with each state at the one after it; and another state with the label of the first
---   Round        from each state the ring leads to each of its class: on every such way the test holds at the other state
+--   Carried      a test that holds at a first state, and with each state at the one after it; and another state with the label of the first
+--   Round        from each state the ring leads to each of its class: every test that is carried along the ring holds at the other state
 --   class_size   how many states have the label of u
 --   Sized        under the label of each state stands the size of its class
 use Rattle.std.specs.Prelude.{◌≡◌, ℕ, ◌+◌, ◌<◌, Bool, true, List, ◌==◌, if◌then◌else◌, slice_index}
@@ -28,7 +28,7 @@ Added old new label other = (x : ℕ) → x < 4096 → slice_index new x ≡ (if
 abbrev pub Keeps : List ℕ → List ℕ → Type 0
 Keeps labels ring = (u : ℕ) → u < 4096 → slice_index labels (slice_index ring u) ≡ slice_index labels u
 
-pub record Way (labels ring : List ℕ) : Type 0 where
+pub record Carried (labels ring : List ℕ) : Type 0 where
   pub holds : ℕ → Bool
   pub first : ℕ
   pub other : ℕ
@@ -39,7 +39,7 @@ pub record Way (labels ring : List ℕ) : Type 0 where
   pub begins : holds first ≡ true
 
 abbrev pub Round : List ℕ → List ℕ → Type 0
-Round labels ring = (w : Way labels ring) → w.holds w.other ≡ true
+Round labels ring = (w : Carried labels ring) → w.holds w.other ≡ true
 
 abbrev pub class_size : List ℕ → ℕ → ℕ
 class_size labels u = count_by (λ x. x == slice_index labels u) labels

@@ -114,6 +114,7 @@ impl Classes {
         self.sizes = [1; 4096];
     }
 
+    // Whether p and q are of one class.
     pub(crate) fn same(&self, p: usize, q: usize) -> bool
         requires p_below { p < 4096 }
         requires q_below { q < 4096 }
@@ -167,12 +168,14 @@ impl Classes {
         count_labels(&self.labels, n)
     }
 
+    // A copy, to go back to.
     pub(crate) fn save(&self) -> Classes
         ensures { result ≡ self.now }
     {
         *self
     }
 
+    // Goes back to a copy.
     pub(crate) fn restore(&mut self, saved: &Classes)
         ensures { self.new ≡ saved.now }
     {

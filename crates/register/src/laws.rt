@@ -1,5 +1,5 @@
 // The laws of comparing. A function here does nothing: its contract is a law about definitions, so that the check asks for its proof.
-ghost use Rattle.register.specs.Pairs.{AgreeLaw, ApartLaw, KeptLaw, PairsLaw};
+ghost use Rattle.register.specs.Pairs.{AgreeLaw, ApartLaw, KeptLaw, PairsLaw, SmallestLaw};
 ghost use Rattle.register.specs.Relations.{ClassesLaw};
 
 // Comparing two states finds the first word that separates them, and else joins what has to be joined.
@@ -12,9 +12,14 @@ pub fn apart_law()
     ensures { ApartLaw }
 {}
 
-// Comparing sees of a test only which of the states it joins.
+// What was joined before is known by which states are joined.
 pub fn agree_law()
     ensures { AgreeLaw }
+{}
+
+// The smallest right-invariant equivalence that holds some pairs is a right-invariant equivalence.
+pub fn smallest_law()
+    ensures { SmallestLaw }
 {}
 
 // Kept and dropped are outcomes that can be told apart.

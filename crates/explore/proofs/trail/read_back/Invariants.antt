@@ -4,7 +4,7 @@ use Rattle.explore.proofs.trail.read_back.Given as goal
 
 abbrev pub invariant-loop-i : goal.invariant-loop-i
 invariant-loop-i g l =
-    let trail = trail_of g.C.Cell.came_from g.C.Cell.came_by l.cells in
+    let trail = trail_of g.C.Cell.reached_from g.C.Cell.reached_by l.cells in
     (l.n + l.i ≤ l.at)
     × (length l.spare ≡ length l.initial.spare)
     × (take l.n l.spare ++ reverse (trail l.i) ≡ reverse (trail l.at))
