@@ -4,8 +4,9 @@ use Rattle.automaton.specs.Words.{Over}
 use Rattle.explore.specs.Order.{Before}
 use Rattle.explore.specs.Search.{Kind, at, way}
 use Rattle.explore.proofs.Noted.{Each, each_more, at_new, at_old, way_old, way_new, at_take}
-use Rattle.explore.proofs.Order.{top, last, over_last, over_end, fold_keeps, before_zero, before_suc}
+use Rattle.explore.proofs.Order.{last, over_last, over_end, fold_keeps, before_zero, before_suc}
 use Rattle.explore.proofs.Trails.{length_end}
+use Rattle.std.proofs.Math.Nat.{eq-or-lt_of_le}
 use Rattle.std.proofs.Math.Seq.{take-append_seam}
 use Rattle.std.proofs.lemmas.List.{length-take-le, take-append-le}
 use Rattle.std.proofs.lemmas.List.Sums.{fold-append}
@@ -92,7 +93,7 @@ module _ (S : Kind) (k : ℕ) (In : S.Item → Type 0) (size : List S.Cell → �
       inv = r.inv;
       within = r.within;
       same = r.same;
-      done = λ b h. go b (top b a h);
+      done = λ b h. go b (eq-or-lt_of_le {n = b} {m = a} (omega arith));
       earlier = one_more cells (way S cells i) a r.earlier (rw ((r.inv.sound.good i r.within).leads, r.same) t);
     }
       where
@@ -107,7 +108,7 @@ module _ (S : Kind) (k : ℕ) (In : S.Item → Type 0) (size : List S.Cell → �
       inv = record {
         sound = record {
           good = each_more S Good cells c v.sound.good good_new;
-          fresh = λ j h. fresh j (top j (length cells) (omega (arith, length_end cells c)));
+          fresh = λ j h. fresh j (eq-or-lt_of_le {n = j} {m = length cells} (omega (arith, length_end cells c)));
           few = omega (arith, v.sound.few, law.room cells (S.step x a) i a ins in_new f, length_end cells c);
           holds = law.seen_more cells c x₀ v.sound.holds;
         };
@@ -115,7 +116,7 @@ module _ (S : Kind) (k : ℕ) (In : S.Item → Type 0) (size : List S.Cell → �
       };
       within = omega (arith, r.within, length_end cells c);
       same = ap S.item (at_old S cells c i r.within) ∙ r.same;
-      done = λ b h. go b (top b a h);
+      done = λ b h. go b (eq-or-lt_of_le {n = b} {m = a} (omega arith));
       earlier = rw (way_old S cells c i r.within) (one_more more (way S cells i) a (λ w o b. law.seen_more cells c _ (r.earlier w o b)) (rw (g.leads, r.same) new_seen));
     }
       where
@@ -195,7 +196,7 @@ module _ (S : Kind) (k : ℕ) (In : S.Item → Type 0) (size : List S.Cell → �
 
     -- cell i is done
     pub onward : {x : S.Item} {i : ℕ} {cells : List S.Cell} → InRow x i k cells → Inv (suc i) cells
-    onward {x} {i} {cells} r = record { sound = r.inv.sound; taken = λ j b h m l. go j b l m (top j i h) }
+    onward {x} {i} {cells} r = record { sound = r.inv.sound; taken = λ j b h m l. go j b l m (eq-or-lt_of_le {n = j} {m = i} (omega arith)) }
       where
         go : (j b : ℕ) → b < k → j < length cells → (j ≡ i) ⊎ (j < i) → S.seen cells (S.step (S.item (at S cells j)) b) ≡ true
         go j b l m (inl e) = rw (e, r.same) (r.done b l)

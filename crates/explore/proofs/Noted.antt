@@ -1,12 +1,12 @@
 -- Cells by their number, and their trails.
 use Rattle.std.proofs.Common.{◌≡◌, ℕ, ◌<◌, ◌≤◌, ◌⊎◌, List, [], ◌∷◌, ◌++◌, length, map, take, drop, get_or, refl, sym, subst, take-append-drop, ◌∙◌, inl, inr, arith}
+use Rattle.std.proofs.Math.Nat.{eq-or-lt_of_le}
 use Rattle.std.proofs.lemmas.List.{length-map}
 use Rattle.std.proofs.Math.Seq.{get_or-append_seam}
 use Rattle.std.proofs.lemmas.Bool.{lt-ltb}
 use Rattle.std.proofs.lemmas.List.{get_or_append_left, get_or-map, get_or-take, length-take-le, map-append}
 use Rattle.explore.specs.Search.{Kind, at, way}
 use Rattle.explore.specs.Trails.{origin_of}
-use Rattle.explore.proofs.Order.{top}
 use Rattle.explore.proofs.Trails.{length_end, trail_first, trail_step, trail_stays}
 
 module _ (S : Kind) where
@@ -63,7 +63,7 @@ module _ (S : Kind) where
   Each P cells = (j : ℕ) → j < length cells → P j (at S cells j) (way S cells j)
 
   pub each_more : (P : ℕ → S.Cell → List ℕ → Type 0) (cells : List S.Cell) (c : S.Cell) → Each P cells → P (length cells) c (way S (cells ++ (c ∷ [])) (length cells)) → Each P (cells ++ (c ∷ []))
-  each_more P cells c all new j h = go (top j (length cells) (omega (arith, length_end cells c)))
+  each_more P cells c all new j h = go (eq-or-lt_of_le {n = j} {m = length cells} (omega (arith, length_end cells c)))
     where
       go : (j ≡ length cells) ⊎ (j < length cells) → P j (at S (cells ++ (c ∷ [])) j) (way S (cells ++ (c ∷ [])) j)
       go (inl e) = rw (e, at_new cells c) new

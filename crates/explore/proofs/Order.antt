@@ -1,17 +1,10 @@
 -- The order of words, and words with a last letter.
 use Rattle.std.proofs.Common.{◌≡◌, ℕ, suc, ◌<◌, ◌≤◌, ◌⊎◌, List, [], ◌∷◌, ◌++◌, length, fold, refl, sym, ap, ◌∙◌, inl, inr, arith}
+use Rattle.std.proofs.Math.Nat.{eq-or-lt_of_le}
 use Rattle.std.proofs.lemmas.Bool.{cases_eq, cases_lt}
 use Rattle.automaton.specs.Words.{Over}
 use Rattle.explore.specs.Order.{Lower, Before, OrderLaw}
 use Rattle.explore.proofs.Trails.{length_end}
-
--- a number below suc n is n or below n
-pub top : (j n : ℕ) → j < suc n → (j ≡ n) ⊎ (j < n)
-top j n h = go (cases_eq j n)
-  where
-    go : (j ≡ n) ⊎ (j ≡ n → ⊥) → (j ≡ n) ⊎ (j < n)
-    go (inl e) = inl e
-    go (inr e) = inr (omega (arith, e))
 
 pub over_end : (k : ℕ) (w : List ℕ) (a : ℕ) → Over k w → a < k → Over k (w ++ (a ∷ []))
 over_end k [] a h l = (l, tt)
@@ -53,7 +46,7 @@ before_zero u t b (inr h) =
 -- between a word and the word with the next last letter there is none
 lower_suc : (w t : List ℕ) (a : ℕ) → length w ≡ suc (length t) → Lower w (t ++ (suc a ∷ [])) → (w ≡ t ++ (a ∷ [])) ⊎ Lower w (t ++ (a ∷ []))
 lower_suc [] t a e h = absurd (omega arith)
-lower_suc (c ∷ []) [] a e (inl h) = go (top c a h)
+lower_suc (c ∷ []) [] a e (inl h) = go (eq-or-lt_of_le {n = c} {m = a} (omega arith))
   where
     go : (c ≡ a) ⊎ (c < a) → (c ∷ [] ≡ a ∷ []) ⊎ Lower (c ∷ []) (a ∷ [])
     go (inl k) = inl (ap (λ b. b ∷ []) k)
@@ -102,6 +95,11 @@ before_total w v = go (cases_lt (length w) (length v)) (cases_lt (length v) (len
     go (inr h) (inl k) = inr (inl k)
     go (inr h) (inr k) = same (omega arith) (lower_total w v (omega arith))
 
+-- what comes before a word is no longer than it
+before_short : (w v : List ℕ) → Before w v → length w ≤ length v
+before_short w v (inl h) = omega arith
+before_short w v (inr h) = omega (arith, h.0)
+
 -- no word comes before the empty one
 pub before_none : (w : List ℕ) → Before w [] → ⊥
 before_none [] (inl h) = omega arith
@@ -139,4 +137,4 @@ before_trans u v w (inr h) (inl k) = inl (omega (arith, h.0))
 before_trans u v w (inr h) (inr k) = inr (h.0 ∙ k.0, lower_trans u v w h.1 k.1)
 
 pub order_law : OrderLaw
-order_law = record { one_way = before_one_way; chained = before_trans; total = before_total }
+order_law = record { shorter = before_short; one_way = before_one_way; chained = before_trans; total = before_total }

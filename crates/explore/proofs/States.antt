@@ -1,5 +1,6 @@
 -- The search over single states.
 use Rattle.std.proofs.Common.{◌≡◌, ℕ, zero, suc, ◌+◌, ◌<◌, ◌≤◌, Bool, true, false, cond, ◌||◌, ◌==◌, ◌⊎◌, List, [], ◌∷◌, ◌++◌, length, fold, refl, sym, subst, ap, ◌∙◌, inl, inr, arith}
+use Rattle.std.proofs.Math.Nat.{eq-or-lt_of_le}
 use Rattle.std.proofs.lemmas.Bool.{eqb-true}
 use Rattle.std.proofs.lemmas.Grind.{common_steps}
 use Rattle.std.proofs.lemmas.List.{get_or_default}
@@ -9,7 +10,6 @@ use Rattle.automaton.specs.Automata.{Automaton, Lawful}
 use Rattle.automaton.specs.Words.{walk}
 use Rattle.explore.specs.Search.{Kind, Decided, Ends, Explored, Searched, at, explore, way}
 use Rattle.explore.specs.States.{EndsAt, Sought, StatesLaw, noted_state, states}
-use Rattle.explore.proofs.Order.{top}
 use Rattle.explore.proofs.Invariant.{LawfulKind}
 use Rattle.explore.proofs.Decided.{decided}
 
@@ -35,7 +35,7 @@ module _ (cells : List StepCell) (c : StepCell) where
   free_one : (n : ℕ) → c.state < n → noted_state cells c.state ≡ false → suc (free (cells ++ (c ∷ [])) n) ≡ free cells n
   unfolding free
   free_one zero h e = absurd (omega arith)
-  free_one (suc n) h e = go (top c.state n h) (λ k. free_one n k e)
+  free_one (suc n) h e = go (eq-or-lt_of_le {n = c.state} {m = n} (omega arith)) (λ k. free_one n k e)
     where
       go : (c.state ≡ n) ⊎ (c.state < n) → (c.state < n → suc (free (cells ++ (c ∷ [])) n) ≡ free cells n) →
           suc (cond (noted_state (cells ++ (c ∷ [])) n) 0 1 + free (cells ++ (c ∷ [])) n) ≡ cond (noted_state cells n) 0 1 + free cells n

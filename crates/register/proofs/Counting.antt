@@ -1,5 +1,6 @@
 -- The number of classes: every list of representatives has the same length, and a join makes one class of two.
 use Rattle.std.proofs.Common.{◌≡◌, ℕ, zero, suc, ◌<◌, ◌≤◌, Bool, true, false, eqb, ◌==◌, ◌⊎◌, List, ◌∷◌, length, map, get_or, All, Any, sym, refl, ap, subst, ◌∙◌, inl, inr, ⊎_elim, arith, le_antisymm}
+use Rattle.std.proofs.Math.Nat.{eq-or-lt_of_le}
 use Rattle.std.proofs.lemmas.Bool.{and_parts, both_ways, cases_Bool, cases_lt, cond_both, eqb-true, false_from_ne_true, ne_eqb, not-true}
 use Rattle.std.specs.List.{list_any, position_or_len}
 use Rattle.std.proofs.lemmas.List.{get_or-map, length-map}
@@ -9,7 +10,6 @@ use Rattle.std.proofs.lemmas.List.Kept.{AllPairs-cons}
 use Rattle.std.proofs.lemmas.List.Sums.{fails_before_first, passes_at_first}
 use Rattle.std.proofs.lemmas.Map.Keys.{IsDistinct-from_apart}
 use Rattle.std.proofs.lemmas.Map.Steps.{length-le_from_distinct_below}
-use Rattle.explore.proofs.Order.{top}
 use Rattle.register.specs.Relations.{Agree, EquivalenceOn, HasClasses, Joins, Representatives, classes, join, least, none_below}
 use Rattle.register.proofs.Joins.{Route, before, over, back, join_equivalence, join_holds, join_swapped, route, routed}
 
@@ -19,7 +19,7 @@ none_joined J x zero t k h j = omega arith
 none_joined J x (suc m) t k h j = ⊎_elim
     (λ s. both_ways (J m x) (not-true _ (and_parts _ _ t).0) (ap (λ i. J i x) (sym s) ∙ j))
     (λ s. none_joined J x m (and_parts _ _ t).1 k s j)
-    (top k m h)
+    (eq-or-lt_of_le {n = k} {m = m} (omega arith))
 
 some_joined : (J : ℕ → ℕ → Bool) (x m : ℕ) → none_below J x m ≡ false → (k : ℕ) × (k < m) × Joins J k x
 unfolding none_below
@@ -89,13 +89,13 @@ module _ (n : ℕ) (J : ℕ → ℕ → Bool) (e : EquivalenceOn n (Joins J)) wh
       go (inl t) ih = rw (least_more J m t) (record {
         inside = All-cons (λ r. r < suc m) m (least J m) (omega arith) (wider ih.inside);
         unrelated = AllPairs-cons (λ u r. Joins J u r → ⊥) m (least J m) (All-weaker (λ r. r < m) (λ r. Joins J m r → ⊥) (λ r h j. none_joined J m m t r h (e.turned m r (omega arith) (omega arith) j)) (least J m) ih.inside) ih.unrelated;
-        every = λ x h. pick x (top x m h);
+        every = λ x h. pick x (eq-or-lt_of_le {n = x} {m = m} (omega arith));
       })
         where
           pick : (x : ℕ) → (x ≡ m) ⊎ (x < m) → Any (Joins J x) (m ∷ least J m)
           pick x (inl i) = (0, m, omega arith, refl, rw i (e.itself m (omega arith)))
           pick x (inr h) = let c = ih.every x h in (suc c.0, c.1, omega (arith, c.2), c.3, c.4)
-      go (inr t) ih = rw (least_same J m t) (record { inside = wider ih.inside; unrelated = ih.unrelated; every = λ x h. pick x (top x m h) })
+      go (inr t) ih = rw (least_same J m t) (record { inside = wider ih.inside; unrelated = ih.unrelated; every = λ x h. pick x (eq-or-lt_of_le {n = x} {m = m} (omega arith)) })
         where
           pick : (x : ℕ) → (x ≡ m) ⊎ (x < m) → Any (Joins J x) (least J m)
           pick x (inl i) =

@@ -2,7 +2,7 @@
 use Rattle.std.proofs.Common.{◌≡◌, ℕ, ◌<◌, Bool, true, false, ◌&&◌, ◌||◌, ◌⊎◌, refl, inl, inr, arith}
 use Rattle.std.proofs.lemmas.Bool.Decides.{nat_tests}
 use Rattle.std.proofs.lemmas.Bool.{and_from, and_parts, or_cases, or_left, or_right}
-use Rattle.register.specs.Relations.{Agree, EquivalenceOn, Joins, join}
+use Rattle.register.specs.Relations.{Agree, EquivalenceOn, JoinLaw, Joins, join}
 
 -- How two states got joined: they were, or by way of x and y, in this order or the other.
 pub data Route (J : ℕ → ℕ → Bool) (x y u v : ℕ) : Type 0 where
@@ -82,3 +82,11 @@ join_least n J E e holds x y hx hy exy u v hu hv t = go (route J x y u v t)
     go (before h) = holds u v hu hv h
     go (over h k) = e.chained u x v hu hx hv (holds u x hu hx h) (e.chained x y v hx hy hv exy (holds y v hy hv k))
     go (back h k) = e.chained u y v hu hy hv (holds u y hu hy h) (e.chained y x v hy hx hv (e.turned x y hx hy exy) (holds x v hx hv k))
+
+pub join_law : JoinLaw
+join_law n J e x y hx hy = record {
+  equivalence = join_equivalence n J e x y hx hy;
+  before = λ u v hu hv t. join_holds J x y u v t;
+  pair = join_joins n J e x y hx hy;
+  least = λ E f within t. join_least n J (Joins E) f within x y hx hy t;
+}

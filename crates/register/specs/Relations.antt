@@ -8,6 +8,8 @@
 --   Holds            the test joins each of the pairs
 --   Smallest         every right-invariant equivalence with a property joins x and y: so does the smallest one that has it
 --   join             what an equivalence J joins, and the class of x with that of y
+--   Joined           this is the smallest equivalence that has what J joins and joins x and y
+--   JoinLaw          so it is for every equivalence
 --   Agree            two tests agree on the states below n
 --   Representatives  the list has one state of each class, of the states below n: no state of it is related to a later one, and every state below n is
 --                    related to one of them
@@ -47,6 +49,15 @@ Smallest m Has x y = (E : ℕ → ℕ → Bool) → RightInvariant m (Joins E) �
 
 abbrev pub join : (ℕ → ℕ → Bool) → ℕ → ℕ → ℕ → ℕ → Bool
 join J x y u v = J u v || (J u x && J y v) || (J u y && J x v)
+
+pub record Joined (n : ℕ) (J : ℕ → ℕ → Bool) (x y : ℕ) : Type 0 where
+  pub equivalence : EquivalenceOn n (Joins (join J x y))
+  pub before : Within n J (join J x y)
+  pub pair : Joins (join J x y) x y
+  pub least : (E : ℕ → ℕ → Bool) → EquivalenceOn n (Joins E) → Within n J E → Joins E x y → Within n (join J x y) E
+
+abbrev pub JoinLaw : Type 0
+JoinLaw = (n : ℕ) (J : ℕ → ℕ → Bool) → EquivalenceOn n (Joins J) → (x y : ℕ) → x < n → y < n → Joined n J x y
 
 abbrev pub Agree : ℕ → (ℕ → ℕ → Bool) → (ℕ → ℕ → Bool) → Type 0
 Agree n J L = (u v : ℕ) → u < n → v < n → J u v ≡ L u v

@@ -1,6 +1,6 @@
 // The laws of comparing. A function here does nothing: its contract is a law about definitions, so that the check asks for its proof.
 ghost use Rattle.register.specs.Pairs.{AgreeLaw, ApartLaw, KeptLaw, PairsLaw, SmallestLaw};
-ghost use Rattle.register.specs.Relations.{ClassesLaw};
+ghost use Rattle.register.specs.Relations.{ClassesLaw, JoinLaw};
 
 // Comparing two states finds the first word that separates them, and else joins what has to be joined.
 pub fn pairs_law()
@@ -32,4 +32,10 @@ pub fn kept_law()
 #[tactic(auto, using(crate::proofs::Counting::classes_has))]
 pub fn classes_law()
     ensures { ClassesLaw }
+{}
+
+// Joining two classes of an equivalence gives the smallest one that has it and joins the two states.
+#[tactic(auto, using(crate::proofs::Joins::join_law))]
+pub fn join_law()
+    ensures { JoinLaw }
 {}
