@@ -4,5 +4,8 @@ pub mod Noted
 pub mod Order
 pub mod Search
 pub mod States
+pub mod Steps
+pub mod Told
+pub mod Tracked
 pub mod Trails
 pub mod Written

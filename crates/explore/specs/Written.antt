@@ -1,7 +1,7 @@
 -- Written words: when the trail of a cell is written, and what a buffer holds afterwards.
 --   can_write    whether there is a cell i, and both buffers are long enough: the spare one has i bytes, and the word's has at least as many as are needed
 --   answered     how many letters were written, if any were to be
---   over         a buffer to whose beginning a word was written; the bytes behind the word are as they were
+--   over         a buffer to whose beginning a word was written, or a slice with cells noted at its beginning; what stands behind is as it was
 --   written      a buffer to whose beginning a word was written, if it was to be
 use Rattle.std.specs.Prelude.{ℕ, Bool, cond, List, ◌++◌, ◌&&◌, length, drop, Option, Some, None, nat_lt, nat_le}
 
@@ -11,7 +11,7 @@ can_write cells i spare word needed = nat_lt i (length cells) && (nat_le i (leng
 abbrev pub answered : Bool → List ℕ → Option ℕ
 answered done w = cond done (Some (length w)) None
 
-abbrev pub over : List ℕ → List ℕ → List ℕ
+abbrev pub over : {T : Type 0} → List T → List T → List T
 over w buffer = w ++ drop (length w) buffer
 
 abbrev pub written : Bool → List ℕ → List ℕ → List ℕ

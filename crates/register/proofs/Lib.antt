@@ -1,7 +1,14 @@
+pub mod Alike
+pub mod Attempts
+pub mod CellJoins
+pub mod Comparing
 pub mod Counting
 pub mod Joins
 pub mod Labelling
+pub mod NewWords
 pub mod Pairs
+pub mod Right
+pub mod Runs
 pub mod Seen
 pub mod Sizes
 pub mod Splice

@@ -1,8 +1,7 @@
 -- Comparing two states joins what has to be joined, and finds the first word that separates them.
-use Rattle.std.proofs.Common.{◌≡◌, ℕ, suc, ◌<◌, ◌≤◌, Bool, true, false, not, ◌↔◌, List, [], ◌∷◌, ◌++◌, length, fold, None, refl, sym, subst, ap, ◌∙◌, arith}
+use Rattle.std.proofs.Common.{◌≡◌, ℕ, suc, ◌<◌, ◌≤◌, Bool, true, false, not, ◌↔◌, List, [], ◌∷◌, length, None, refl, sym, subst, ap, ◌∙◌, arith}
 use Rattle.std.proofs.lemmas.Bool.{both_ways, not-false, not-true, true_from_ne_false}
-use Rattle.std.proofs.lemmas.List.Sums.{fold-append}
-use Rattle.automaton.specs.Automata.{Automaton}
+use Rattle.automaton.specs.Automata.{Automaton, Lawful}
 use Rattle.automaton.specs.Words.{Over, walk}
 use Rattle.explore.specs.declared.pair_cell.PairCell.{PairCell}
 use Rattle.explore.specs.Search.{Kind, Decided, Ends, Explored, Searched, at, explore, way}
@@ -10,39 +9,15 @@ use Rattle.explore.proofs.Invariant.{AllIn, LawfulKind}
 use Rattle.explore.proofs.Order.{fold_keeps}
 use Rattle.explore.proofs.Decided.{decided}
 use Rattle.explore.proofs.Search.{Come, come}
-use Rattle.register.specs.Relations.{Below, EquivalenceOn, Holds, Joins, RightInvariant, Smallest, Within, classes, join}
-use Rattle.register.specs.Pairs.{Compared, Held, PairsLaw, Separates, Standing, joins, pairs}
+use Rattle.register.specs.Relations.{Below, EquivalenceOn, Holds, Joins, RightInvariant, Smallest, Within, classes}
+use Rattle.register.specs.Pairs.{Found, Held, PairsLaw, Separates, Standing, joins, pairs}
+use Rattle.register.proofs.CellJoins.{CellsIn, cells_in, joins_end, joins_equivalence, joins_hold, joins_least, pairs_in, walk_pair}
 use Rattle.register.proofs.Counting.{classes_few, classes_join}
-use Rattle.register.proofs.Joins.{join_equivalence, join_holds, join_joins, join_least}
+use Rattle.register.proofs.Joins.{join_holds, join_joins}
+use Rattle.register.proofs.NewWords.{noted}
 use Rattle.register.proofs.Standing.{holding}
 
--- The joins of some cells.
-abbrev pub CellsIn : ℕ → List PairCell → Type 0
-CellsIn n [] = Unit {0}
-CellsIn n (c ∷ cells) = (c.first < n) × (c.second < n) × CellsIn n cells
-
-abbrev pub PairsIn : (ℕ → ℕ → Type 0) → List PairCell → Type 0
-PairsIn E [] = Unit {0}
-PairsIn E (c ∷ cells) = E c.first c.second × PairsIn E cells
-
-pub joins_end : (J : ℕ → ℕ → Bool) (cells : List PairCell) (c : PairCell) → joins J (cells ++ (c ∷ [])) ≡ join (joins J cells) c.first c.second
-joins_end J cells c = fold-append (λ L d. join L d.first d.second) J cells (c ∷ [])
-
-module _ (n : ℕ) where
-  pub joins_equivalence : (J : ℕ → ℕ → Bool) → EquivalenceOn n (Joins J) → (cells : List PairCell) → CellsIn n cells → EquivalenceOn n (Joins (joins J cells))
-  joins_equivalence J e [] i = e
-  joins_equivalence J e (c ∷ cells) i = joins_equivalence (join J c.first c.second) (join_equivalence n J e c.first c.second i.0 i.1) cells i.2
-
-  pub joins_hold : (J : ℕ → ℕ → Bool) (cells : List PairCell) (u v : ℕ) → Joins J u v → Joins (joins J cells) u v
-  joins_hold J [] u v h = h
-  joins_hold J (c ∷ cells) u v h = joins_hold (join J c.first c.second) cells u v (join_holds J c.first c.second u v h)
-
-  pub joins_least : (E : ℕ → ℕ → Type 0) → EquivalenceOn n E → (J : ℕ → ℕ → Bool) → ((u v : ℕ) → u < n → v < n → Joins J u v → E u v) →
-      (cells : List PairCell) → CellsIn n cells → PairsIn E cells → (u v : ℕ) → u < n → v < n → Joins (joins J cells) u v → E u v
-  joins_least E e J h [] i p = h
-  joins_least E e J h (c ∷ cells) i p = joins_least E e (join J c.first c.second) (join_least n J E e h c.first c.second i.0 i.1 p.0) cells i.2 p.1
-
-module _ (m : Automaton) (stays : (x a : ℕ) → x < m.count → a < m.letters → m.next x a < m.count)
+module _ (m : Automaton) (lawful : Lawful m)
     (alike : ℕ → ℕ → Bool) (outcomes : EquivalenceOn m.count (Joins alike)) (J : ℕ → ℕ → Bool) (s : Standing m alike J) where
   abbrev S : Kind
   S = pairs m alike J
@@ -57,12 +32,7 @@ module _ (m : Automaton) (stays : (x a : ℕ) → x < m.count → a < m.letters 
   equal = s.invariant.equivalence
 
   inside : (cells : List PairCell) → AllIn S In cells → CellsIn m.count cells
-  inside [] i = tt
-  inside (c ∷ cells) i = let h = i 0 (omega arith) in (h.0, h.1, inside cells (λ j l. i (suc j) (omega arith)))
-
-  pairs_in : (E : ℕ → ℕ → Type 0) (cells : List PairCell) → ((j : ℕ) → j < length cells → E (at S cells j).first (at S cells j).second) → PairsIn E cells
-  pairs_in E [] i = tt
-  pairs_in E (c ∷ cells) i = (i 0 (omega arith), pairs_in E cells (λ j l. i (suc j) (omega arith)))
+  inside cells i = cells_in m.count cells i
 
   outcomes_equal : (x y : ℕ) → x < m.count → y < m.count → Joins J x y → Joins alike x y
   outcomes_equal x y hx hy h = true_from_ne_false _ (λ f. s.unseparated x y hx hy h [] record { over = tt; apart = f })
@@ -87,9 +57,9 @@ module _ (m : Automaton) (stays : (x a : ℕ) → x < m.count → a < m.letters 
 
       after : EquivalenceOn m.count E
       after = record {
-        itself = λ u hu. e.itself (m.next u a) (stays u a hu ha);
-        turned = λ u v hu hv t. e.turned (m.next u a) (m.next v a) (stays u a hu ha) (stays v a hv ha) t;
-        chained = λ u v w hu hv hw t r. e.chained (m.next u a) (m.next v a) (m.next w a) (stays u a hu ha) (stays v a hv ha) (stays w a hw ha) t r;
+        itself = λ u hu. e.itself (m.next u a) (lawful.stays u a hu ha);
+        turned = λ u v hu hv t. e.turned (m.next u a) (m.next v a) (lawful.stays u a hu ha) (lawful.stays v a hv ha) t;
+        chained = λ u v w hu hv hw t r. e.chained (m.next u a) (m.next v a) (m.next w a) (lawful.stays u a hu ha) (lawful.stays v a hv ha) (lawful.stays w a hw ha) t r;
       }
 
       first : (u v : ℕ) → u < m.count → v < m.count → Joins J u v → E u v
@@ -101,7 +71,7 @@ module _ (m : Automaton) (stays : (x a : ℕ) → x < m.count → a < m.letters 
     origin_noted = λ x i a. refl;
     letter_noted = λ x i a. refl;
     whole = λ c. refl;
-    in_step = λ x a h i. (stays x.0 a i.0 h, stays x.1 a i.1 h);
+    in_step = λ x a h i. (lawful.stays x.0 a i.0 h, lawful.stays x.1 a i.1 h);
     seen_new = λ cells c ins i. subst (λ (L : ℕ → ℕ → Bool). Joins L c.first c.second) (sym (joins_end J cells c))
         (join_joins m.count (joins J cells) (joins_equivalence m.count J equal cells (inside cells ins)) c.first c.second i.0 i.1);
     seen_more = λ cells c x t. subst (λ (L : ℕ → ℕ → Bool). Joins L x.0 x.1) (sym (joins_end J cells c)) (join_holds (joins J cells) c.first c.second x.0 x.1 t);
@@ -111,16 +81,12 @@ module _ (m : Automaton) (stays : (x a : ℕ) → x < m.count → a < m.letters 
         (classes_join m.count (joins J cells) (joins_equivalence m.count J equal cells (inside cells ins)) x.0 x.1 h.0 h.1 f);
   }
 
-  walk_pair : (w : List ℕ) (x y : ℕ) → fold S.step (x, y) w ≡ (walk m x w, walk m y w)
-  walk_pair [] x y = refl
-  walk_pair (a ∷ w) x y = walk_pair w (m.next x a) (m.next y a)
-
   module _ (p q : ℕ) (hp : p < m.count) (hq : q < m.count) where
     separates : (w : List ℕ) → Ends S m.letters (p, q) w → Separates m alike p q w
-    separates w e = record { over = e.over; apart = not-true _ (rw (walk_pair w p q) at e.ends) }
+    separates w e = record { over = e.over; apart = not-true _ (rw (walk_pair m w p q) at e.ends) }
 
     ends : (w : List ℕ) → Separates m alike p q w → Ends S m.letters (p, q) w
-    ends w e = record { over = e.over; ends = rw (walk_pair w p q, e.apart) refl }
+    ends w e = record { over = e.over; ends = rw (walk_pair m w p q, e.apart) refl }
 
     -- what an ended search has joined
     module _ (r : Searched PairCell) (c : Come S m.letters In size (p, q) r) (n : r.word ≡ None) where
@@ -138,7 +104,7 @@ module _ (m : Automaton) (stays : (x a : ℕ) → x < m.count → a < m.letters 
 
       word_alike : (w : List ℕ) → Over m.letters w → (x y : ℕ) → x < m.count → y < m.count → Joins L x y → Joins alike (walk m x w) (walk m y w)
       word_alike [] o x y hx hy t = all_alike r.noted ins (λ j h. (c.good j h).goes) x y hx hy t
-      word_alike (a ∷ w) o x y hx hy t = word_alike w o.1 (m.next x a) (m.next y a) (stays x a hx o.0) (stays y a hy o.0) (step x y a hx hy o.0 t)
+      word_alike (a ∷ w) o x y hx hy t = word_alike w o.1 (m.next x a) (m.next y a) (lawful.stays x a hx o.0) (lawful.stays y a hy o.0) (step x y a hx hy o.0 t)
 
       stands : Standing m alike L
       stands = record { invariant = invariant; unseparated = λ x y hx hy t w e. both_ways _ e.apart (word_alike w e.over x y hx hy t) }
@@ -151,7 +117,7 @@ module _ (m : Automaton) (stays : (x a : ℕ) → x < m.count → a < m.letters 
           Joined x = In x × Joins E x.0 x.1
 
           next : (x : ℕ × ℕ) (a : ℕ) → a < m.letters → Joined x → Joined (S.step x a)
-          next x a ha i = ((stays x.0 a i.0.0 ha, stays x.1 a i.0.1 ha), e.steps x.0 x.1 a i.0.0 i.0.1 ha i.1)
+          next x a ha i = ((lawful.stays x.0 a i.0.0 ha, lawful.stays x.1 a i.0.1 ha), e.steps x.0 x.1 a i.0.0 i.0.1 ha i.1)
 
           noted : (j : ℕ) → j < length r.noted → Joins E (at S r.noted j).first (at S r.noted j).second
           noted j l =
@@ -172,16 +138,17 @@ module _ (m : Automaton) (stays : (x a : ℕ) → x < m.count → a < m.letters 
           all [] b h = tt
           all (d ∷ some) b h = (joins_hold m.count J r.noted d.0 d.1 ((o.smallest d.0 d.1 b.0 b.1).1 (λ E e k. (h E e k).0)), all some b.2 (λ E e k. (h E e k).1))
 
-    compared : Compared m alike J p q (explore S m.letters m.count (p, q))
-    compared = record {
+    found_pairs : Found m alike J p q (explore S m.letters m.count (p, q))
+    found_pairs = record {
       decided = d;
-      leads = λ i h. let e = sym (walk_pair (way S (explore S m.letters m.count (p, q)).noted i) p q) ∙ x.leads i h in record { over = (x.next i h).0.over; first = ap (λ (y : ℕ × ℕ). y.0) e; second = ap (λ (y : ℕ × ℕ). y.1) e };
+      leads = λ i h. let e = sym (walk_pair m (way S (explore S m.letters m.count (p, q)).noted i) p q) ∙ x.leads i h in record { over = (x.next i h).0.over; first = ap (λ (y : ℕ × ℕ). y.0) e; second = ap (λ (y : ℕ × ℕ). y.1) e };
       first = λ w e. (separates w (x.first w e).0, (λ v o. (x.first w e).1 v (ends v o)));
       unseparated = λ n w o. x.none n w (ends w o);
       standing = stands (explore S m.letters m.count (p, q)) c;
       smallest = small (explore S m.letters m.count (p, q)) c;
       one_more = more (explore S m.letters m.count (p, q)) c;
       counted = omega (arith, c.room);
+      noted = noted m lawful alike J equal p q hp hq m.count (explore S m.letters m.count (p, q)) x;
     }
       where
         few : classes J m.count ≤ m.count
@@ -197,4 +164,4 @@ module _ (m : Automaton) (stays : (x a : ℕ) → x < m.count → a < m.letters 
         x = d.explored
 
 pub pairs_law : PairsLaw
-pairs_law m l alike o J s p q hp hq = compared m l.stays alike o J s p q hp hq
+pairs_law m l alike o J s p q hp hq = found_pairs m l alike o J s p q hp hq

@@ -1,4 +1,10 @@
+pub mod Attempts
+pub mod Calls
 pub mod Labels
+pub mod Noted
 pub mod Pairs
+pub mod Refusals
 pub mod Relations
 pub mod Rings
+pub mod Runs
+pub mod Verdicts

@@ -3,12 +3,13 @@
 --   kept_alike   the outcomes are equal: both states are kept, or both are dropped
 --   Separates    a word over the letters leads from p and from q to states whose outcomes are not equal
 --   joins        J with the pairs of the cells made one, cell after cell
+--   CellsBelow   both states of each cell are below n
 --   pairs        the kind of this search, over what J joins
 --   Standing     what J joins is a right-invariant equivalence, and no word separates states that it joins
 --   Led          the walks of a word over the letters lead from p and q to the pair of a cell
 --   IsSmallest   the test joins exactly what the smallest right-invariant equivalence joins that has a property
 --   Held         J is what comparings have joined that began with these pairs and found no word
---   Compared     what comparing p and q gives, over what J joins
+--   Found        what comparing p and q gives, over what J joins
 --   PairsLaw     over every automaton, for all outcomes, over whatever was joined before, comparing any two states gives that
 --   Apart        J is `Held` with no pairs, and has as many classes as there are states
 --   ApartLaw     so it is with every test that joins each state to itself alone
@@ -16,13 +17,14 @@
 --   AgreeLaw     so it is where J and L agree on the states
 --   SmallestLaw  the smallest right-invariant equivalence that holds some pairs is one
 --   KeptLaw      two states have equal outcomes exactly if both are kept or both are dropped, and to have equal outcomes is an equivalence
-use Rattle.std.specs.Prelude.{◌≡◌, ℕ, ◌+◌, ◌<◌, Bool, false, not, ◌↔◌, List, [], ◌∷◌, length, fold, None, Some, ◌==◌}
+use Rattle.std.specs.Prelude.{◌≡◌, ℕ, ◌+◌, ◌<◌, Bool, false, not, ◌↔◌, List, [], ◌∷◌, length, fold, All, None, Some, ◌==◌}
 use Rattle.std.specs.Bool.{beq}
 use Rattle.automaton.specs.Automata.{Automaton, Lawful}
 use Rattle.automaton.specs.Words.{Over, walk}
 use Rattle.explore.specs.declared.pair_cell.PairCell.{PairCell}
 use Rattle.explore.specs.Order.{First}
 use Rattle.explore.specs.Search.{Kind, Decided, Searched, at, explore, way}
+use Rattle.register.specs.Noted.{Noted}
 use Rattle.register.specs.Relations.{Agree, Below, EquivalenceOn, HasClasses, Holds, Joins, RightInvariant, Smallest, Within, classes, join}
 
 abbrev pub kept_alike : Automaton → ℕ → ℕ → Bool
@@ -34,6 +36,9 @@ pub record Separates (m : Automaton) (alike : ℕ → ℕ → Bool) (p q : ℕ) 
 
 abbrev pub joins : (ℕ → ℕ → Bool) → List PairCell → ℕ → ℕ → Bool
 joins J cells = fold (λ L c. join L c.first c.second) J cells
+
+abbrev pub CellsBelow : ℕ → List PairCell → Type 0
+CellsBelow n cells = All (λ c. (c.first < n) × (c.second < n)) cells
 
 abbrev pub pairs : Automaton → (ℕ → ℕ → Bool) → (ℕ → ℕ → Bool) → Kind
 pairs m alike J = record {
@@ -71,7 +76,7 @@ pub record Held (m : Automaton) (alike : ℕ → ℕ → Bool) (held : List (ℕ
   -- which has as many classes as J
   pub counted : HasClasses m.count (Smallest m (Holds held)) (classes J m.count)
 
-pub record Compared (m : Automaton) (alike : ℕ → ℕ → Bool) (J : ℕ → ℕ → Bool) (p q : ℕ) (r : Searched PairCell) : Type 0 where
+pub record Found (m : Automaton) (alike : ℕ → ℕ → Bool) (J : ℕ → ℕ → Bool) (p q : ℕ) (r : Searched PairCell) : Type 0 where
   -- all that every search gives
   pub decided : Decided (pairs m alike J) m.letters m.count (p, q) r
   -- the trail of each cell leads from p and q to its pair
@@ -88,10 +93,12 @@ pub record Compared (m : Automaton) (alike : ℕ → ℕ → Bool) (J : ℕ → 
   pub one_more : r.word ≡ None → (held : List (ℕ × ℕ)) → Held m alike held J → Held m alike ((p, q) ∷ held) (joins J r.noted)
   -- each noted pair has made one class fewer
   pub counted : classes (joins J r.noted) m.count + length r.noted ≡ classes J m.count
+  -- words alone tell which pairs are noted, in order: those that the new words lead to, over what J joins
+  pub noted : Noted m (Joins J) p q r.noted r.word
 
 abbrev pub PairsLaw : Type 0
 PairsLaw = (m : Automaton) → Lawful m → (alike : ℕ → ℕ → Bool) → EquivalenceOn m.count (Joins alike) → (J : ℕ → ℕ → Bool) → Standing m alike J →
-    (p q : ℕ) → p < m.count → q < m.count → Compared m alike J p q (explore (pairs m alike J) m.letters m.count (p, q))
+    (p q : ℕ) → p < m.count → q < m.count → Found m alike J p q (explore (pairs m alike J) m.letters m.count (p, q))
 
 pub record Apart (m : Automaton) (alike : ℕ → ℕ → Bool) (J : ℕ → ℕ → Bool) : Type 0 where
   pub held : Held m alike [] J

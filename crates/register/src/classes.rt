@@ -167,18 +167,4 @@ impl Classes {
     {
         count_labels(&self.labels, n)
     }
-
-    // A copy, to go back to.
-    pub(crate) fn save(&self) -> Classes
-        ensures { result ≡ self.now }
-    {
-        *self
-    }
-
-    // Goes back to a copy.
-    pub(crate) fn restore(&mut self, saved: &Classes)
-        ensures { self.new ≡ saved.now }
-    {
-        *self = *saved;
-    }
 }

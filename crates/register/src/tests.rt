@@ -77,25 +77,13 @@ fn joins_a_chain(rt: HostRuntime) {
 fn joins_a_large_class_with_a_small_one(rt: HostRuntime) {
     let mut large_first = chain();
     large_first.join(200, 201);
-    let mut small_first = large_first.save();
+    let mut small_first = large_first;
     large_first.join(50, 201);
     small_first.join(201, 50);
     assert!(rt; large_first.same(200, 0));
     assert!(rt; small_first.same(200, 0));
     assert_eq!(rt; large_first.count(202), 100);
     assert_eq!(rt; small_first.count(202), 100);
-}
-
-#[test]
-fn restores_what_was_saved(rt: HostRuntime) {
-    let mut table = joined();
-    let saved = table.save();
-    table.join(0, 4);
-    assert_eq!(rt; table.count(5), 1);
-    table.restore(&saved);
-    assert_eq!(rt; table.count(5), 2);
-    assert!(rt; !table.same(0, 4));
-    assert!(rt; table.same(1, 4));
 }
 
 #[test]

@@ -1,0 +1,47 @@
+use Rattle.std.proofs.Common.{◌≡◌, ◌≤◌, ◌-◌, cond, drop, length-drop, ℕ, suc, List, ◌++◌, ◌∷◌, [], length, true, sym, subst, ap, ◌∙◌, refl, arith}
+use Rattle.explore.specs.declared.pair_cell.PairCell.{PairCell}
+use Rattle.explore.specs.Queues.{further_cells, has_room, noted_cells}
+use Rattle.explore.proofs.Trails.{length_end}
+use Rattle.register.specs.Labels.{same}
+use Rattle.register.specs.Pairs.{CellsBelow, joins}
+use Rattle.register.specs.Relations.{Agree, classes, join}
+use Rattle.register.proofs.Attempts.{joined_one, one_below, one_fewer, room_for_one}
+use Rattle.register.proofs.attempt.Attempt.note.Given.{Over}
+use Rattle.register.proofs.attempt.Attempt.note.Goals as goal
+
+module _ (g : Over) (c : goal.After-note g) where
+  abbrev n : ℕ
+  n = g.R.Rule.count c.args.self.now.rule.now
+
+  bound : n ≤ 4096
+  bound = (g.R.Rule.bounds c.args.self.now.rule.now).few_states
+
+  joined : Agree 4096 (same c.join.new.self.labels) (join (same c.args.self.now.after.labels) c.args.cell.first c.args.cell.second)
+  joined = subst (λ (x : ℕ). Agree 4096 (same c.join.new.self.labels) (join (same c.args.self.now.after.labels) c.args.cell.first x)) c.from-2.ensures
+      (subst (λ (x : ℕ). Agree 4096 (same c.join.new.self.labels) (join (same c.args.self.now.after.labels) x c.from-2.result)) c.from.ensures c.join.ensures)
+
+  fewer : suc (classes (same c.join.new.self.labels) n) ≡ classes (same c.args.self.now.after.labels) n
+  fewer = one_fewer c.args.self.now.after.labels c.join.new.self.labels n c.args.cell.first c.args.cell.second bound c.requires.first_there c.requires.second_there c.requires.apart joined
+
+  room : has_room c.args.queue.now ≡ true
+  room = room_for_one c.args.queue.now (omega (arith, fewer, c.requires.stands.fewer, c.requires.stands.room))
+
+  noted : noted_cells c.note.new.self ≡ noted_cells c.args.queue.now ++ (c.args.cell ∷ [])
+  noted = c.note.ensures.noted ∙ rw (c.note.ensures.answer, room) refl
+
+  fewer_left : length (further_cells c.note.new.self) ≡ length (further_cells c.args.queue.now) - 1
+  fewer_left = ap length (c.note.ensures.further ∙ ap (λ b. drop (cond b 1 0) (further_cells c.args.queue.now)) (c.note.ensures.answer ∙ room)) ∙ length-drop 1 (further_cells c.args.queue.now)
+
+pub returns-clause-stands : goal.returns-clause-stands
+returns-clause-stands g c = record {
+  joined = subst (λ (cells : List PairCell). Agree 4096 (same c.join.new.self.labels) (joins (same c.args.self.now.before.now.labels) cells)) (sym (noted g c))
+      (joined_one c.args.self.now.after.labels c.join.new.self.labels (same c.args.self.now.before.now.labels) (noted_cells c.args.queue.now) c.args.cell
+      (omega (arith, bound g c, c.requires.first_there)) (omega (arith, bound g c, c.requires.second_there)) c.requires.stands.joined (joined g c));
+  inside = subst (λ (cells : List PairCell). CellsBelow (n g c) cells) (sym (noted g c))
+      (one_below (n g c) (noted_cells c.args.queue.now) c.args.cell c.requires.stands.inside c.requires.first_there c.requires.second_there);
+  fewer = omega (arith, ap length (noted g c), length_end (noted_cells c.args.queue.now) c.args.cell, fewer g c, c.requires.stands.fewer);
+  room = omega (arith, ap length (noted g c), length_end (noted_cells c.args.queue.now) c.args.cell, fewer_left g c, c.requires.stands.room);
+}
+
+pub returns-clause-noted : goal.returns-clause-noted
+returns-clause-noted g c = noted g c

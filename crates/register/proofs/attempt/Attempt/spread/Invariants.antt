@@ -1,0 +1,12 @@
+use Rattle.std.proofs.Common.{◌≡◌, None}
+use Rattle.explore.specs.Search.{spread}
+use Rattle.register.specs.Attempts.{Goes, Stands, kind_of, progress}
+use Rattle.register.proofs.attempt.Attempt.spread.Given as goal
+
+abbrev pub invariant-loop-letter : goal.invariant-loop-letter
+invariant-loop-letter g l = record {
+  stands : Stands g.R.Rule l.self l.queue;
+  goes : Goes l.initial.self l.self l.initial.queue l.queue;
+  spread : spread (kind_of g.R.Rule l.initial.self) (progress l.initial.queue None) (l.cell.first, l.cell.second) l.at l.letter ≡ progress l.queue None;
+  taken : l.queue.taken ≡ l.initial.queue.taken;
+}

@@ -1,0 +1,109 @@
+// The register: a rule, and which of its states are joined.
+ghost use Rattle.std.specs.Prelude.{◌≡◌, Err, Ok, cond, nat_lt};
+ghost use Rattle.automaton.specs.declared.kind.FaultKind.TheVariants.{BufferTooShort, NoSuchState, TooFewCells};
+ghost use Rattle.register.specs.Refusals.{both_there, refused};
+
+use crate::classes::Classes;
+use crate::compare::compare;
+use crate::verdict::Verdict;
+use automaton::fault::Fault;
+use automaton::kind::FaultKind;
+use automaton::layer::Layer;
+use automaton::rule::Rule;
+use explore::pair_cell::PairCell;
+
+// A rule, held by value, and the classes of its states.
+#[derive(Drop)]
+pub struct Register<R: Rule> {
+    rule: R,
+    classes: Classes,
+}
+
+impl<R: Rule> Register<R> {
+    ghost use Rattle.std.specs.Prelude.{◌≡◌, ◌==◌};
+    ghost use Rattle.register.specs.Calls.{Asked, Cleared, Compared, Counted, joined_in};
+    ghost use Rattle.register.specs.Relations.{Agree};
+    ghost use Rattle.register.specs.Runs.{Law};
+
+    // A register over this rule, in which no two different states are joined. Whatever is called on it from here on keeps the law.
+    #[tactic(auto, using(crate::proofs::Runs::law))]
+    pub fn open(rule: R) -> Register<R>
+        ensures rule { result.rule ≡ rule }
+        ensures apart { Agree (R.Rule.count rule) (joined_in result) (λ x y. x == y) }
+        ensures law { Law R.Rule result }
+    {
+        Register {
+            rule,
+            classes: Classes::new(),
+        }
+    }
+
+    // Whether two states are joined. A state that is not there is refused.
+    pub fn joined(&self, p: usize, q: usize) -> Result<bool, Fault>
+        ensures { Asked R.Rule self.now p q result }
+    {
+        check_states(self.rule.size().states, p, q)?;
+        Ok(self.classes.same(p, q))
+    }
+
+    // The number of classes.
+    pub fn class_count(&self) -> usize
+        ensures { Counted R.Rule self.now result }
+    {
+        self.classes.count(self.rule.size().states)
+    }
+
+    // Parts all states again.
+    pub fn clear(&mut self)
+        ensures { Cleared R.Rule self.old self.new }
+    {
+        self.classes.clear();
+    }
+
+    // Compares two states: whether a word separates them. What is noted on the way stands in the first cells afterwards, and a word that was found
+    // at the beginning of `word`. After "same" the noted pairs are joined. A refusal changes nothing.
+    pub fn compare(
+        &mut self,
+        p: usize,
+        q: usize,
+        cells: &mut [PairCell],
+        word: &mut [u8],
+    ) -> Result<Verdict, Fault>
+        ensures { Compared R.Rule self.old p q cells.old word.old result self.new cells.new word.new }
+    {
+        let n = self.rule.size().states;
+        check_states(n, p, q)?;
+        check_room(n, cells.len(), word.len())?;
+        Ok(compare(&self.rule, &mut self.classes, p, q, cells, word))
+    }
+}
+
+// A refusal of a register.
+fn refused(kind: FaultKind) -> Fault
+    ensures { result ≡ refused kind }
+{
+    Fault::new(kind, Layer::Register)
+}
+
+// Whether both states are there, of n.
+fn check_states(n: usize, p: usize, q: usize) -> Result<(), Fault>
+    ensures { result ≡ cond (both_there n p q) (Ok tt) (Err (refused NoSuchState)) }
+{
+    if p >= n || q >= n {
+        return Err(refused(FaultKind::NoSuchState));
+    }
+    Ok(())
+}
+
+// Whether there is a cell for each of n states, and a byte in the buffer for the word.
+fn check_room(n: usize, cells: usize, bytes: usize) -> Result<(), Fault>
+    ensures { result ≡ cond (nat_lt cells n) (Err (refused TooFewCells)) (cond (nat_lt bytes n) (Err (refused BufferTooShort)) (Ok tt)) }
+{
+    if cells < n {
+        return Err(refused(FaultKind::TooFewCells));
+    }
+    if bytes < n {
+        return Err(refused(FaultKind::BufferTooShort));
+    }
+    Ok(())
+}
