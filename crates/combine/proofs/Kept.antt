@@ -59,7 +59,7 @@ lies m n h same = grind (arith, common_steps, keeps_first, keeps_second)
 made : (m n : Automaton) → FitSum m n → disjoint_union m n ≡ beside m n
 made m n f = grind (arith, common_steps)
 
-unites : (m n : Automaton) → Lawful m → Unites m n (disjoint_union m n)
+pub unites : (m n : Automaton) → Lawful m → Unites m n (disjoint_union m n)
 unites m n h = record {
   means = refl;
   beside = λ f. rw (made m n f) (lies m n h f.same);

@@ -1,0 +1,4 @@
+pub mod Judging
+pub mod Parting
+pub mod Settling
+pub mod Sheets
