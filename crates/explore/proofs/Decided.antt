@@ -12,7 +12,7 @@ use Rattle.explore.proofs.Search.{explored}
 use Rattle.explore.proofs.Trails.{length_end}
 
 -- A property has one first word.
-first_one : (P : List ℕ → Type 0) (w v : List ℕ) → First P w → First P v → w ≡ v
+pub first_one : (P : List ℕ → Type 0) (w v : List ℕ) → First P w → First P v → w ≡ v
 first_one P w v f g = go (f.1 v g.0) (g.1 w f.0)
   where
     go : (w ≡ v) ⊎ Before w v → (v ≡ w) ⊎ Before v w → w ≡ v

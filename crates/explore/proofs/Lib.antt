@@ -8,4 +8,5 @@ pub mod Steps
 pub mod Told
 pub mod Tracked
 pub mod Trails
+pub mod Underway
 pub mod Written

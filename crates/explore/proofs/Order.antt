@@ -3,7 +3,7 @@ use Rattle.std.proofs.Common.{◌≡◌, ℕ, suc, ◌<◌, ◌≤◌, ◌⊎◌
 use Rattle.std.proofs.Math.Nat.{eq-or-lt_of_le}
 use Rattle.std.proofs.lemmas.Bool.{cases_eq, cases_lt}
 use Rattle.automaton.specs.Words.{Over}
-use Rattle.explore.specs.Order.{Lower, Before, OrderLaw}
+use Rattle.explore.specs.Order.{Before, First, Lower, OrderLaw}
 use Rattle.explore.proofs.Trails.{length_end}
 
 pub over_end : (k : ℕ) (w : List ℕ) (a : ℕ) → Over k w → a < k → Over k (w ++ (a ∷ []))
@@ -138,3 +138,11 @@ before_trans u v w (inr h) (inr k) = inr (h.0 ∙ k.0, lower_trans u v w h.1 k.1
 
 pub order_law : OrderLaw
 order_law = record { shorter = before_short; one_way = before_one_way; chained = before_trans; total = before_total }
+
+-- The first word with a property is no longer than any other that has it.
+pub first_short : (P : List ℕ → Type 0) (w : List ℕ) → First P w → (v : List ℕ) → P v → length w ≤ length v
+first_short P w f v p = go (f.1 v p)
+  where
+    go : (w ≡ v) ⊎ Before w v → length w ≤ length v
+    go (inl e) = omega (arith, ap length e)
+    go (inr b) = before_short w v b

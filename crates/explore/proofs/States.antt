@@ -9,38 +9,33 @@ use Rattle.explore.specs.declared.step_cell.StepCell.{StepCell}
 use Rattle.automaton.specs.Automata.{Automaton, Lawful}
 use Rattle.automaton.specs.Words.{walk}
 use Rattle.explore.specs.Search.{Kind, Decided, Ends, Explored, Searched, at, explore, way}
-use Rattle.explore.specs.States.{EndsAt, Sought, StatesLaw, noted_state, states}
+use Rattle.explore.specs.States.{EndsAt, Sought, StatesLaw, noted_state, states, unnoted}
 use Rattle.explore.proofs.Invariant.{LawfulKind}
 use Rattle.explore.proofs.Decided.{decided}
 
--- how many states below n no cell has
-free : List StepCell → ℕ → ℕ
-free cells zero = 0
-free cells (suc n) = cond (noted_state cells n) 0 1 + free cells n
-
-free_none : (n : ℕ) → free [] n ≡ n
-unfolding free
-free_none zero = refl
-free_none (suc n) = omega (arith, free_none n)
+pub unnoted_none : (n : ℕ) → unnoted [] n ≡ n
+unfolding unnoted
+unnoted_none zero = refl
+unnoted_none (suc n) = omega (arith, unnoted_none n)
 
 module _ (cells : List StepCell) (c : StepCell) where
-  more : (x : ℕ) → noted_state (cells ++ (c ∷ [])) x ≡ (noted_state cells x || c.state == x)
-  more x = list_any-append (λ d. d.state == x) cells (c ∷ []) ∙ grind (arith, common_steps)
+  pub noted_more : (x : ℕ) → noted_state (cells ++ (c ∷ [])) x ≡ (noted_state cells x || c.state == x)
+  noted_more x = list_any-append (λ d. d.state == x) cells (c ∷ []) ∙ grind (arith, common_steps)
 
-  free_below : (n : ℕ) → n ≤ c.state → free (cells ++ (c ∷ [])) n ≡ free cells n
-  unfolding free
-  free_below zero h = refl
-  free_below (suc n) h = let ih = free_below n (omega arith) in let m = more n in grind (arith, common_steps)
+  unnoted_below : (n : ℕ) → n ≤ c.state → unnoted (cells ++ (c ∷ [])) n ≡ unnoted cells n
+  unfolding unnoted
+  unnoted_below zero h = refl
+  unnoted_below (suc n) h = let ih = unnoted_below n (omega arith) in let m = noted_more n in grind (arith, common_steps)
 
-  free_one : (n : ℕ) → c.state < n → noted_state cells c.state ≡ false → suc (free (cells ++ (c ∷ [])) n) ≡ free cells n
-  unfolding free
-  free_one zero h e = absurd (omega arith)
-  free_one (suc n) h e = go (eq-or-lt_of_le {n = c.state} {m = n} (omega arith)) (λ k. free_one n k e)
+  pub unnoted_one : (n : ℕ) → c.state < n → noted_state cells c.state ≡ false → suc (unnoted (cells ++ (c ∷ [])) n) ≡ unnoted cells n
+  unfolding unnoted
+  unnoted_one zero h e = absurd (omega arith)
+  unnoted_one (suc n) h e = go (eq-or-lt_of_le {n = c.state} {m = n} (omega arith)) (λ k. unnoted_one n k e)
     where
-      go : (c.state ≡ n) ⊎ (c.state < n) → (c.state < n → suc (free (cells ++ (c ∷ [])) n) ≡ free cells n) →
-          suc (cond (noted_state (cells ++ (c ∷ [])) n) 0 1 + free (cells ++ (c ∷ [])) n) ≡ cond (noted_state cells n) 0 1 + free cells n
-      go (inl k) ih = let b = free_below n (omega arith) in let m = more n in grind (arith, common_steps)
-      go (inr k) ih = let i = ih k in let m = more n in grind (arith, common_steps)
+      go : (c.state ≡ n) ⊎ (c.state < n) → (c.state < n → suc (unnoted (cells ++ (c ∷ [])) n) ≡ unnoted cells n) →
+          suc (cond (noted_state (cells ++ (c ∷ [])) n) 0 1 + unnoted (cells ++ (c ∷ [])) n) ≡ cond (noted_state cells n) 0 1 + unnoted cells n
+      go (inl k) ih = let b = unnoted_below n (omega arith) in let m = noted_more n in grind (arith, common_steps)
+      go (inr k) ih = let i = ih k in let m = noted_more n in grind (arith, common_steps)
 
 module _ (m : Automaton) (ends : ℕ → Bool) where
   abbrev S : Kind
@@ -49,18 +44,18 @@ module _ (m : Automaton) (ends : ℕ → Bool) where
   noted_at : (cells : List StepCell) (x : ℕ) → noted_state cells x ≡ true → (j : ℕ) × (j < length cells) × ((at S cells j).state ≡ x)
   noted_at cells x t = let r = Any-from_list_any (λ c. c.state == x) cells t in (r.0, r.2, ap (λ (c : StepCell). c.state) (get_or_default cells r.0 S.none r.1 r.2 ∙ r.3) ∙ eqb-true _ x r.4)
 
-  states_lawful : Lawful m → LawfulKind S m.letters (λ x. x < m.count) (λ cells. free cells m.count)
+  states_lawful : Lawful m → LawfulKind S m.letters (λ x. x < m.count) (λ cells. unnoted cells m.count)
   states_lawful l = record {
     item_noted = λ x i a. refl;
     origin_noted = λ x i a. refl;
     letter_noted = λ x i a. refl;
     whole = λ c. refl;
     in_step = λ x a h i. l.stays x a i h;
-    seen_new = λ cells c ins i. let m = more cells c c.state in grind (arith, common_steps);
-    seen_more = λ cells c x t. let m = more cells c x in grind (arith, common_steps);
+    seen_new = λ cells c ins i. let m = noted_more cells c c.state in grind (arith, common_steps);
+    seen_more = λ cells c x t. let m = noted_more cells c x in grind (arith, common_steps);
     seen_goes = λ cells ins h x i t. let r = noted_at cells x t in subst (λ (y : ℕ). ends y ≡ false) r.2 (h r.0 r.1);
     seen_step = λ old cells o ins h x a i l t. let r = noted_at old x t in subst (λ (y : ℕ). noted_state cells (m.next y a) ≡ true) r.2 (h r.0 a r.1 l);
-    room = λ cells x i a ins h e. free_one cells (record { state = x; origin = i; letter = a }) m.count h e;
+    room = λ cells x i a ins h e. unnoted_one cells (record { state = x; origin = i; letter = a }) m.count h e;
   }
 
   walk_fold : (w : List ℕ) (x : ℕ) → fold m.next x w ≡ walk m x w
@@ -79,7 +74,7 @@ module _ (m : Automaton) (ends : ℕ → Bool) where
       r = explore S m.letters m.count x
 
       d : Decided S m.letters m.count x (explore S m.letters m.count x)
-      d = decided S m.letters m.count (λ y. y < m.count) (λ cells. free cells m.count) x (states_lawful l) h (omega (arith, free_none m.count))
+      d = decided S m.letters m.count (λ y. y < m.count) (λ cells. unnoted cells m.count) x (states_lawful l) h (omega (arith, unnoted_none m.count))
 
       e : Explored S m.letters m.count x (explore S m.letters m.count x)
       e = d.explored

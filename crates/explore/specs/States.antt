@@ -1,11 +1,12 @@
 -- Searching single states for one that ends the search, a kept one say.
 --   noted_state   some cell has this state
+--   unnoted       how many states below n no cell has
 --   states        the kind of this search: a state was seen if a cell has it
 --   Leads         the walk of a word over the letters leads from x to the state of a cell
 --   EndsAt        the walk of a word over the letters leads from x to a state that ends the search
 --   Sought        what the search from x gives
 --   StatesLaw     over every automaton, for every set of states that end it, the search from any state gives that
-use Rattle.std.specs.Prelude.{◌≡◌, ℕ, ◌<◌, Bool, true, List, length, None, Some, ◌==◌}
+use Rattle.std.specs.Prelude.{◌≡◌, ℕ, zero, suc, ◌+◌, ◌<◌, Bool, true, cond, List, length, None, Some, ◌==◌}
 use Rattle.std.specs.List.{list_any}
 use Rattle.automaton.specs.Automata.{Automaton, Lawful}
 use Rattle.automaton.specs.Words.{Over, walk}
@@ -15,6 +16,10 @@ use Rattle.explore.specs.Search.{Kind, Decided, Searched, at, explore, way}
 
 abbrev pub noted_state : List StepCell → ℕ → Bool
 noted_state cells x = list_any (λ c. c.state == x) cells
+
+unfoldable pub unnoted : List StepCell → ℕ → ℕ
+unnoted cells zero = 0
+unnoted cells (suc n) = cond (noted_state cells n) 0 1 + unnoted cells n
 
 abbrev pub states : Automaton → (ℕ → Bool) → Kind
 states m ends = record {

@@ -7,6 +7,7 @@ mod examples;
 pub mod laws;
 pub mod pair_cell;
 pub mod queue;
+pub mod room;
 pub mod step_cell;
 #[cfg(test)]
 mod tests;

@@ -1,4 +1,4 @@
-// Examples: the queue over lent slices of both kinds of cells, and trails that are written into buffers. The functions with contracts say
+// Examples: the queue over lent slices of both kinds of cells, trails that are written into buffers, and room. The functions with contracts say
 // what a lent slice holds when its queue is gone, and tie a trail to the fields of each kind of cell.
 ghost use Rattle.std.specs.Prelude.{◌≡◌, ◌≤◌, ◌<◌, ◌++◌, ◌∷◌, [], ◌==◌, length, drop, take, replicate, Some};
 ghost use Rattle.automaton.specs.Automata.{blank};
@@ -10,8 +10,12 @@ ghost use Rattle.explore.specs.Written.{can_write, written};
 
 use crate::pair_cell::PairCell;
 use crate::queue::Queue;
+use crate::room::{check_bytes, check_cells};
 use crate::step_cell::StepCell;
 use crate::trail::{write_trail, write_word};
+use automaton::fault::Fault;
+use automaton::kind::FaultKind;
+use automaton::layer::Layer;
 
 // Notes three cells where there is room, and takes two of them back.
 fn note_pairs(
@@ -239,4 +243,14 @@ fn a_trail_of_single_states(rt: HostRuntime) {
     let mut word = [8; 3];
     assert_eq!(rt; write_steps(&cells, 2, &mut spare, &mut word), Some(2));
     assert_eq!(rt; word, [0, 4, 8]);
+}
+
+#[test]
+fn room(rt: HostRuntime) {
+    let few = Fault::new(FaultKind::TooFewCells, Layer::Search);
+    assert!(rt; check_cells(Layer::Search, 3, 2) == Err(few));
+    assert!(rt; check_cells(Layer::Search, 3, 3) == Ok(()));
+    let short = Fault::new(FaultKind::BufferTooShort, Layer::Register);
+    assert!(rt; check_bytes(Layer::Register, 1, 0) == Err(short));
+    assert!(rt; check_bytes(Layer::Register, 1, 1) == Ok(()));
 }

@@ -1,5 +1,5 @@
 -- What a comparing answers and hands over is right, where what is joined is held by the tally's pairs.
-use Rattle.std.proofs.Common.{◌≡◌, ℕ, ◌<◌, ◌≤◌, Bool, true, false, cond, ◌⊎◌, ◌↔◌, List, [], length, length-append, ◌+◌, take, drop, Option, None, Some, refl, sym, ap, ap₂, ◌∙◌, inl, inr, arith}
+use Rattle.std.proofs.Common.{◌≡◌, ℕ, ◌<◌, Bool, true, false, cond, ◌⊎◌, ◌↔◌, List, [], length, length-append, ◌+◌, take, drop, Option, None, Some, refl, sym, ap, ap₂, ◌∙◌, inl, inr, arith}
 use Rattle.std.specs.Bool.{beq, one_answer}
 use Rattle.std.specs.Prelude.{unwrap_or}
 use Rattle.std.proofs.Math.Path.{subst⁻¹}
@@ -8,10 +8,9 @@ use Rattle.std.proofs.lemmas.Bool.{cond-false, cond-true, true≢false}
 use Rattle.automaton.specs.Automata.{Automaton, Lawful}
 use Rattle.automaton.specs.Words.{walk}
 use Rattle.explore.specs.declared.pair_cell.PairCell.{PairCell}
-use Rattle.explore.specs.Order.{Before}
 use Rattle.explore.specs.Search.{Searched}
 use Rattle.explore.specs.Written.{over}
-use Rattle.explore.proofs.Order.{order_law}
+use Rattle.explore.proofs.Order.{first_short}
 use Rattle.register.specs.declared.verdict.Verdict.{Verdict}
 use Rattle.register.specs.Calls.{found}
 use Rattle.register.specs.Noted.{Noted}
@@ -80,7 +79,7 @@ module _ (m : Automaton) (l : Lawful m) (t : Tally) (J : ℕ → ℕ → Bool) (
     right = record {
       same = same r.word refl;
       first = λ w e. c.first w (is_found w e);
-      shortest = λ w e u s. no_longer w u ((c.first w (is_found w e)).1 u s);
+      shortest = λ w e. first_short (Separates m (kept_alike m) p q) w (c.first w (is_found w e));
       named = λ w e. subst⁻¹ (λ (o : Option (List ℕ)). Named m p q (verdict_by m p q (length r.noted) o) w) (is_found w e) (named m p q (length r.noted) w (c.first w (is_found w e)).0);
       many = omega (arith, long, joins_noted m p q (length r.noted) r.word);
       noted = subst⁻¹ (λ (z : List PairCell × Option (List ℕ)). Noted m (Settled m t) p q z.0 z.1) (ap₂ (λ (x : List PairCell) (y : Option (List ℕ)). (x, y)) cells_handed found_handed)
@@ -88,7 +87,3 @@ module _ (m : Automaton) (l : Lawful m) (t : Tally) (J : ℕ → ℕ → Bool) (
       defined = λ L s. sym (found_alike m l (kept_alike m) (kept_law.equivalence m) J L h.standing (smallest_agree m t.pairs J L h.smallest s) p q hp hq)
           ∙ sym is ∙ ap₂ (λ (cells : List PairCell) (w : Option (List ℕ)). record { noted = cells; word = w }) (sym cells_handed) (sym found_handed);
     }
-      where
-        no_longer : (w u : List ℕ) → (w ≡ u) ⊎ Before w u → length w ≤ length u
-        no_longer w u (inl e) = omega (arith, ap length e)
-        no_longer w u (inr b) = order_law.shorter w u b

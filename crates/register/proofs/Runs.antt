@@ -10,10 +10,10 @@ use Rattle.automaton.specs.Automata.{Automaton, Lawful}
 use Rattle.automaton.specs.Meanings.{meaning}
 use Rattle.explore.specs.declared.pair_cell.PairCell.{PairCell}
 use Rattle.explore.specs.Search.{Searched}
-use Rattle.explore.specs.Written.{over}
+use Rattle.explore.specs.Written.{if_answered, over}
 use Rattle.register.specs.declared.register.Register.{Register}
 use Rattle.register.specs.declared.verdict.Verdict.TheVariants.{Same, Differ}
-use Rattle.register.specs.Calls.{Counted, found, found_in, if_answered, joined_in, rule_of}
+use Rattle.register.specs.Calls.{Counted, found, found_in, joined_in, rule_of}
 use Rattle.register.specs.Refusals.{both_there, checked, refused}
 use Rattle.register.specs.Pairs.{Agreeing, Found as Came, Held, joins, kept_alike}
 use Rattle.register.specs.Relations.{Agree, HasClasses, classes}

@@ -2,7 +2,6 @@
 --   rule_in          the automaton that its rule means
 --   kind_of          the search that it makes: over pairs of states, and over what was joined before
 --   no_cell          stands for a cell that is not there
---   progress         how far it has come: the cells noted so far, and the cell and the letter that ended it, if it has ended
 --   searched_pairs   how far such a search comes: until it has ended, or no cell is left
 --   searched_by      the same for a rule, over what is joined in some classes
 --   found_by         what the search over pairs gives, for a rule and over what is joined in some classes
@@ -10,8 +9,8 @@
 --   Stands           the noted pairs and no others are joined in the copy, and their states are there; each has made one class fewer; and there are as many cells as
 --                    states, so that there is always room
 --   Kept             the classes after a comparing: after "same" they have the joins of the noted pairs, and after "differ" they are as they were
---   Goes             it has gone on: the same rule, the same classes before it, the same loan, at least as many cells noted, and all cells behind these as they were
-use Rattle.std.specs.Prelude.{◌≡◌, ℕ, ◌+◌, ◌≤◌, Bool, List, Option, length, drop}
+--   Goes             it has gone on: the same rule, the same classes before it, and the queue has gone on
+use Rattle.std.specs.Prelude.{◌≡◌, ℕ, ◌+◌, ◌≤◌, Bool, List, length}
 use Rattle.automaton.specs.declared.rule.Rule.{Ghosts}
 use Rattle.automaton.specs.Automata.{Automaton}
 use Rattle.automaton.specs.Meanings.{meaning}
@@ -19,6 +18,7 @@ use Rattle.explore.specs.declared.pair_cell.PairCell.{PairCell}
 use Rattle.explore.specs.declared.queue.Queue.{Queue}
 use Rattle.explore.specs.Queues.{further_cells, noted_cells}
 use Rattle.explore.specs.Search.{Kind, Progress, Searched, begun, taken}
+use Rattle.explore.specs.Underway.{Grown}
 use Rattle.register.specs.declared.attempt.Attempt.{Attempt}
 use Rattle.register.specs.declared.classes.Classes.{Classes}
 use Rattle.register.specs.declared.verdict.Verdict.{Verdict}
@@ -30,9 +30,6 @@ use Rattle.register.specs.Relations.{Agree, classes}
 
 abbrev pub no_cell : PairCell
 no_cell = record { first = 0; second = 0; origin = 0; letter = 0 }
-
-abbrev pub progress : Queue PairCell → Option (ℕ × ℕ) → Progress PairCell
-progress q ended = record { noted = noted_cells q; ended = ended }
 
 abbrev pub searched_pairs : Automaton → (ℕ → ℕ → Bool) → ℕ → ℕ → Progress PairCell
 searched_pairs m J p q = taken (pairs m (kept_alike m) J) m.letters (begun (pairs m (kept_alike m) J) (p, q)) m.count
@@ -53,9 +50,7 @@ Kept n old noted (Differ long keeper tried) new = new ≡ old
 pub record Goes {R : Type 0} (old new : Attempt R) (before after : Queue PairCell) : Type 0 where
   pub rule : new.rule ≡ old.rule
   pub classes : new.before ≡ old.before
-  pub same_reference : after.cells.ghost_name ≡ before.cells.ghost_name
-  pub more : length (noted_cells before) ≤ length (noted_cells after)
-  pub further : further_cells after ≡ drop (length (noted_cells after)) before.cells.now
+  pub grown : Grown before after
 
 module _ {R : Type 0} (g : Ghosts R) where
   abbrev pub rule_in : Attempt R → Automaton

@@ -1,6 +1,5 @@
 -- What each call of a register promises: one relation between the register before, the arguments, the answer and the register after.
 --   found             what the search over pairs gives from p and q on, over what is joined
---   if_answered       one thing if a call was answered, another if it was refused
 --   rule_of           the automaton that the rule of a register means
 --   joined_in         whether a register has joined two states
 --   Compared          comparing: its answer; the rule stays; what is joined then; the noted cells stand at the beginning of the cells, and a word that was found at the
@@ -16,7 +15,7 @@ use Rattle.automaton.specs.Automata.{Automaton}
 use Rattle.automaton.specs.Meanings.{meaning}
 use Rattle.explore.specs.declared.pair_cell.PairCell.{PairCell}
 use Rattle.explore.specs.Search.{Searched, explore}
-use Rattle.explore.specs.Written.{over}
+use Rattle.explore.specs.Written.{if_answered, over}
 use Rattle.register.specs.declared.register.Register.{Register}
 use Rattle.register.specs.declared.verdict.Verdict.{Verdict}
 use Rattle.register.specs.declared.verdict.Verdict.TheVariants.{Same, Differ}
@@ -28,10 +27,6 @@ use Rattle.register.specs.Verdicts.{verdict}
 
 abbrev pub found : Automaton → (ℕ → ℕ → Bool) → ℕ → ℕ → Searched PairCell
 found m J p q = explore (pairs m (kept_alike m) J) m.letters m.count (p, q)
-
-abbrev pub if_answered : {S T : Type 0} → Result T Fault → S → S → S
-if_answered (Ok v) x y = x
-if_answered (Err f) x y = y
 
 abbrev pub joined_in : {R : Type 0} → Register R → ℕ → ℕ → Bool
 joined_in r = same r.classes.labels

@@ -18,8 +18,9 @@ impl<'a, R: Rule> Attempt<'a, R> {
     ghost use Rattle.std.specs.Prelude.{◌≡◌, ◌++◌, ◌∷◌, [], ◌<◌, ◌≤◌, ◌+◌, None, Some, cond, false, is_some, length, option_map, slice_get};
     ghost use Rattle.explore.specs.Queues.{further_cells, noted_cells};
     ghost use Rattle.explore.specs.Search.{met, spread, taken};
+    ghost use Rattle.explore.specs.Underway.{progress};
     ghost use Rattle.explore.specs.Written.{over};
-    ghost use Rattle.register.specs.Attempts.{Goes, Stands, kind_of, next_cell, progress, rule_in, searched_pairs};
+    ghost use Rattle.register.specs.Attempts.{Goes, Stands, kind_of, next_cell, rule_in, searched_pairs};
     ghost use Rattle.register.specs.Labels.{same};
 
     // An attempt in which nothing is joined.

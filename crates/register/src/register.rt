@@ -1,6 +1,6 @@
 // The register: a rule, and which of its states are joined.
-ghost use Rattle.std.specs.Prelude.{◌≡◌, Err, Ok, cond, nat_lt};
-ghost use Rattle.automaton.specs.declared.kind.FaultKind.TheVariants.{BufferTooShort, NoSuchState, TooFewCells};
+ghost use Rattle.std.specs.Prelude.{◌≡◌, Err, Ok, cond};
+ghost use Rattle.automaton.specs.declared.kind.FaultKind.TheVariants.{NoSuchState};
 ghost use Rattle.register.specs.Refusals.{both_there, refused};
 
 use crate::classes::Classes;
@@ -11,6 +11,7 @@ use automaton::kind::FaultKind;
 use automaton::layer::Layer;
 use automaton::rule::Rule;
 use explore::pair_cell::PairCell;
+use explore::room::{check_bytes, check_cells};
 
 // A rule, held by value, and the classes of its states.
 #[derive(Drop)]
@@ -73,16 +74,10 @@ impl<R: Rule> Register<R> {
     {
         let n = self.rule.size().states;
         check_states(n, p, q)?;
-        check_room(n, cells.len(), word.len())?;
+        check_cells(Layer::Register, n, cells.len())?;
+        check_bytes(Layer::Register, n, word.len())?;
         Ok(compare(&self.rule, &mut self.classes, p, q, cells, word))
     }
-}
-
-// A refusal of a register.
-fn refused(kind: FaultKind) -> Fault
-    ensures { result ≡ refused kind }
-{
-    Fault::new(kind, Layer::Register)
 }
 
 // Whether both states are there, of n.
@@ -90,20 +85,7 @@ fn check_states(n: usize, p: usize, q: usize) -> Result<(), Fault>
     ensures { result ≡ cond (both_there n p q) (Ok tt) (Err (refused NoSuchState)) }
 {
     if p >= n || q >= n {
-        return Err(refused(FaultKind::NoSuchState));
-    }
-    Ok(())
-}
-
-// Whether there is a cell for each of n states, and a byte in the buffer for the word.
-fn check_room(n: usize, cells: usize, bytes: usize) -> Result<(), Fault>
-    ensures { result ≡ cond (nat_lt cells n) (Err (refused TooFewCells)) (cond (nat_lt bytes n) (Err (refused BufferTooShort)) (Ok tt)) }
-{
-    if cells < n {
-        return Err(refused(FaultKind::TooFewCells));
-    }
-    if bytes < n {
-        return Err(refused(FaultKind::BufferTooShort));
+        return Err(Fault::new(FaultKind::NoSuchState, Layer::Register));
     }
     Ok(())
 }

@@ -2,10 +2,11 @@ use Rattle.std.proofs.Common.{◌≡◌, ◌≤◌, ◌-◌, cond, drop, length-
 use Rattle.explore.specs.declared.pair_cell.PairCell.{PairCell}
 use Rattle.explore.specs.Queues.{further_cells, has_room, noted_cells}
 use Rattle.explore.proofs.Trails.{length_end}
+use Rattle.explore.proofs.Underway.{room_for_one}
 use Rattle.register.specs.Labels.{same}
 use Rattle.register.specs.Pairs.{CellsBelow, joins}
 use Rattle.register.specs.Relations.{Agree, classes, join}
-use Rattle.register.proofs.Attempts.{joined_one, one_below, one_fewer, room_for_one}
+use Rattle.register.proofs.Attempts.{joined_one, one_below, one_fewer}
 use Rattle.register.proofs.attempt.Attempt.note.Given.{Over}
 use Rattle.register.proofs.attempt.Attempt.note.Goals as goal
 

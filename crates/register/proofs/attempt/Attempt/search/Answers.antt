@@ -2,7 +2,8 @@ use Rattle.std.proofs.Common.{◌∙◌, ap, None, List, sym}
 use Rattle.explore.specs.declared.pair_cell.PairCell.{PairCell}
 use Rattle.explore.proofs.Steps.{taken_none}
 use Rattle.register.specs.Attempts.{kind_of}
-use Rattle.register.proofs.Attempts.{cell_below, few_noted, few_taken, goes_taken, goes_then, goes_yet, handed_out, none_out, stands_taken, taken_done, taken_more, taken_out}
+use Rattle.explore.proofs.Underway.{handed_out, none_out, taken_done, taken_more, taken_out}
+use Rattle.register.proofs.Attempts.{cell_below, few_noted, few_taken, goes_taken, goes_then, goes_yet, spread_on, stands_taken}
 use Rattle.register.proofs.attempt.Attempt.search.Goals as goal
 
 pub loop-at-init : goal.loop-at-init
@@ -31,8 +32,10 @@ pub returns-in-Some-spread-clause-taken : goal.returns-in-Some-spread-clause-tak
 returns-in-Some-spread-clause-taken g c =
     let h = handed_out _ _ _ _ _ c.take.ensures.answer c.in-Some.is in
     let e = h.0 in
-    rw e (taken_out g.R.Rule c.args.self.now c.loop-at.self c.args.queue.now c.loop-at.queue c.take.new.self c.spread.new.queue c.loop-at.queue.taken _ c.in-Some.cell c.in-Some-spread.letter
-    c.loop-at.invariant.goes c.loop-at.invariant.so_far h.1 c.take.ensures.noted (rw (c.in-Some-spread.is, e) at c.spread.ensures.spread)
+    rw e (taken_out (kind_of g.R.Rule c.args.self.now) _ c.args.queue.now c.loop-at.queue c.take.new.self c.spread.new.queue c.loop-at.queue.taken _ c.in-Some.cell c.in-Some-spread.letter
+    c.loop-at.invariant.so_far h.1 c.take.ensures.noted
+    (spread_on g.R.Rule c.args.self.now c.loop-at.self c.args.queue.now c.loop-at.queue c.take.new.self c.spread.new.queue c.in-Some.cell _ _ c.loop-at.invariant.goes
+    (rw (c.in-Some-spread.is, e) at c.spread.ensures.spread))
     (few_noted g.R.Rule c.args.self.now c.loop-at.self c.args.queue.now c.loop-at.queue c.loop-at.invariant.goes c.loop-at.invariant.stands))
 
 pub loop-at-preserved : goal.loop-at-preserved
@@ -45,12 +48,14 @@ loop-at-preserved g c =
           (goes_taken c.args.self.now c.loop-at.self c.args.queue.now c.loop-at.queue c.take.new.self c.loop-at.invariant.goes c.take.ensures.same_reference c.take.ensures.noted c.take.ensures.further)
           c.spread.ensures.goes;
       so_far = rw (c.spread.ensures.taken, c.take.ensures.taken, c.in-Some.is)
-          (taken_more g.R.Rule c.args.self.now c.loop-at.self c.args.queue.now c.loop-at.queue c.take.new.self c.spread.new.queue c.loop-at.queue.taken c.in-Some.cell None
-          c.loop-at.invariant.goes c.loop-at.invariant.so_far h.1 c.take.ensures.noted (rw (c.in_default-spread.is, e) at c.spread.ensures.spread));
+          (taken_more (kind_of g.R.Rule c.args.self.now) _ c.args.queue.now c.loop-at.queue c.take.new.self c.spread.new.queue c.loop-at.queue.taken c.in-Some.cell None
+          c.loop-at.invariant.so_far h.1 c.take.ensures.noted
+          (spread_on g.R.Rule c.args.self.now c.loop-at.self c.args.queue.now c.loop-at.queue c.take.new.self c.spread.new.queue c.in-Some.cell _ _ c.loop-at.invariant.goes
+          (rw (c.in_default-spread.is, e) at c.spread.ensures.spread)));
     }
 
 pub returns-clause-taken : goal.returns-clause-taken
 returns-clause-taken g c =
-    taken_done g.R.Rule c.args.self.now c.args.queue.now c.loop-at.queue c.loop-at.queue.taken _ c.loop-at.invariant.so_far (none_out _ _ _ c.take.ensures.answer c.in_default.is)
+    taken_done (kind_of g.R.Rule c.args.self.now) _ c.args.queue.now c.loop-at.queue c.loop-at.queue.taken _ c.loop-at.invariant.so_far (none_out _ _ _ c.take.ensures.answer c.in_default.is)
     (few_taken g.R.Rule c.args.self.now c.loop-at.self c.args.queue.now c.loop-at.queue c.loop-at.invariant.goes c.loop-at.invariant.stands)
     ∙ ap (λ (cells : List PairCell). record { noted = cells; ended = None }) (sym c.take.ensures.noted)

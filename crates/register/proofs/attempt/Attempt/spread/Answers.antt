@@ -2,7 +2,7 @@ use Rattle.std.proofs.Common.{◌∙◌, ap, None, refl, arith}
 use Rattle.automaton.specs.declared.size.Size.{Size}
 use Rattle.explore.proofs.Steps.{spread_none}
 use Rattle.register.specs.Attempts.{kind_of}
-use Rattle.register.proofs.Attempts.{goes_yet, goes_then, spread_more, spread_out}
+use Rattle.register.proofs.Attempts.{goes_yet, goes_then, spread_next, spread_over}
 use Rattle.register.proofs.attempt.Attempt.spread.Goals as goal
 
 pub loop-letter-init : goal.loop-letter-init
@@ -14,7 +14,7 @@ returns-then-reach-clause-goes g c =
 
 pub returns-then-reach-clause-spread : goal.returns-then-reach-clause-spread
 returns-then-reach-clause-spread g c =
-    spread_out g.R.Rule c.args.self.now c.loop-letter.self c.args.queue.now c.loop-letter.queue c.reach.new.queue c.args.cell c.pair_after-next.result c.args.at c.loop-letter.letter _
+    spread_over g.R.Rule c.args.self.now c.loop-letter.self c.args.queue.now c.loop-letter.queue c.reach.new.queue c.args.cell c.pair_after-next.result c.args.at c.loop-letter.letter _
     c.loop-letter.invariant.goes c.loop-letter.invariant.spread c.pair_after-next.ensures (c.reach.ensures.met ∙ rw (c.if-reach.true, c.pair_after-next.ensures) refl)
     (omega (arith, c.loop-letter-test.true, ap (λ (s : Size). s.letters) c.size-letter-end.ensures))
 
@@ -22,7 +22,7 @@ pub loop-letter-preserved : goal.loop-letter-preserved
 loop-letter-preserved g c = record {
   stands = c.reach.ensures.stands;
   goes = goes_then c.args.self.now c.loop-letter.self c.reach.new.self c.args.queue.now c.loop-letter.queue c.reach.new.queue c.loop-letter.invariant.goes c.reach.ensures.goes;
-  spread = spread_more g.R.Rule c.args.self.now c.loop-letter.self c.args.queue.now c.loop-letter.queue c.reach.new.queue c.args.cell c.pair_after-next.result c.args.at c.loop-letter.letter None
+  spread = spread_next g.R.Rule c.args.self.now c.loop-letter.self c.args.queue.now c.loop-letter.queue c.reach.new.queue c.args.cell c.pair_after-next.result c.args.at c.loop-letter.letter None
       c.loop-letter.invariant.goes c.loop-letter.invariant.spread c.pair_after-next.ensures (c.reach.ensures.met ∙ rw c.if-reach.false refl);
   taken = c.reach.ensures.taken ∙ c.loop-letter.invariant.taken;
 }

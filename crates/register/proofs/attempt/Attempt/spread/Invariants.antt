@@ -1,6 +1,7 @@
 use Rattle.std.proofs.Common.{◌≡◌, None}
 use Rattle.explore.specs.Search.{spread}
-use Rattle.register.specs.Attempts.{Goes, Stands, kind_of, progress}
+use Rattle.explore.specs.Underway.{progress}
+use Rattle.register.specs.Attempts.{Goes, Stands, kind_of}
 use Rattle.register.proofs.attempt.Attempt.spread.Given as goal
 
 abbrev pub invariant-loop-letter : goal.invariant-loop-letter

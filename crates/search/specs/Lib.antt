@@ -1,0 +1,4 @@
+pub mod FirstKept
+pub mod Hunts
+pub mod Marks
+pub mod Relations
