@@ -12,8 +12,8 @@ use Rattle.settlement.specs.Settlements.{KeptBy, Settled}
 one_side : (a b : Diagram) (side other : Side) (w : List ℕ) → KeptBy a b side w → KeptBy a b other w → other ≡ side
 one_side a b First First w o q = refl
 one_side a b Second Second w o q = refl
-one_side a b First Second w o q = absurd (o.rejects q.accepts)
-one_side a b Second First w o q = absurd (o.rejects q.accepts)
+one_side a b First Second w o q = absurd (o.not_there q.here)
+one_side a b Second First w o q = absurd (o.not_there q.here)
 one_side a b Neither other w o q = absurd o
 one_side a b Pair other w o q = absurd o
 one_side a b First Neither w o q = absurd q

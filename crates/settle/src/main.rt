@@ -3,7 +3,7 @@
 
 mod files;
 mod laws;
-mod report;
+mod line;
 #[cfg(test)]
 mod tests;
 

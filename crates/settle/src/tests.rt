@@ -1,6 +1,6 @@
 // Examples: whole lines, and which files are read.
 use crate::files::print_settlement;
-use crate::report::report_settlement;
+use crate::line::report_settlement;
 use std::fs;
 use std::process::Abort;
 use std::test::Fail;

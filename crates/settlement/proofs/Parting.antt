@@ -19,12 +19,12 @@ pub record WordsOf (d : Diagram) (c : Automaton) (p : ℕ) : Type 0 where
 
 module _ {d e : Diagram} {c : Automaton} {p q : ℕ} (a : WordsOf d c p) (b : WordsOf e c q) where
   pub only : (w : List ℕ) → Over c.letters w → KeptFrom c p q w → Only d e w
-  only w o h = record { accepts = (a.are w).1 (o, h.0); rejects = λ x. both_ways _ h.1 ((b.are w).0 x).1 }
+  only w o h = record { here = (a.are w).1 (o, h.0); not_there = λ x. both_ways _ h.1 ((b.are w).0 x).1 }
 
   pub kept_from : (w : List ℕ) → Only d e w → Over c.letters w × KeptFrom c p q w
   kept_from w o =
-      let h = (a.are w).0 o.accepts in
-      (h.0, (h.1, false_from_ne_true _ (λ t. o.rejects ((b.are w).1 (h.0, t)))))
+      let h = (a.are w).0 o.here in
+      (h.0, (h.1, false_from_ne_true _ (λ t. o.not_there ((b.are w).1 (h.0, t)))))
 
 module _ {d e : Diagram} {c : Automaton} {p q : ℕ} (a : WordsOf d c p) (b : WordsOf e c q) where
   pub separates_tells : (w : List ℕ) → Separates c (kept_alike c) p q w → TellsApart d e w
@@ -58,5 +58,5 @@ module _ {d e : Diagram} {c : Automaton} {p q : ℕ} (a : WordsOf d c p) (b : Wo
   alike_none f w s = go (separates_tells w s)
     where
       go : TellsApart d e w → ⊥
-      go (inl o) = o.rejects ((f w).0 o.accepts)
-      go (inr o) = o.rejects ((f w).1 o.accepts)
+      go (inl o) = o.not_there ((f w).0 o.here)
+      go (inr o) = o.not_there ((f w).1 o.here)

@@ -21,7 +21,8 @@ use Rattle.register.specs.Verdicts.{verdict_value}
 use Rattle.register.proofs.Standing.{apart_law, kept_law}
 use Rattle.settlement.specs.declared.settlement.Settlement.{Settlement}
 use Rattle.settlement.specs.Settlements.{Settled, Unsettled, checked, keeper_of, search_of, word_not_copied, word_of}
-use Rattle.settlement.specs.Steps.{Judged, OnSheet, Tells}
+use Rattle.settlement.specs.Openings.{OnSheet}
+use Rattle.settlement.specs.Steps.{Judged, Tells}
 use Rattle.settlement.proofs.Parting.{WordsOf, alike_none, none_alike, separates_tells, tells_separates}
 use Rattle.settlement.proofs.Settling.{has_word, kept_by, same_said}
 use Rattle.sheet.specs.Bounds.{tabled_lawful}
@@ -105,7 +106,7 @@ module _ (first second : List ℕ) (f : WellFormed first) (g : WellFormed second
   pub unsettled : checked first second ≡ Ok tt → (e : Fault) → e ≡ word_not_copied → IsSome (verdict_value v).word → Unsettled first second e
   unsettled unrefused e is h =
       let o = has_word v buffer h in
-      inr (inr (inr (record { is = is; unrefused = unrefused; apart = (o.0, separates_tells first_words second_words o.0 (r.first o.0 o.1).0) })))
+      inr (inr (record { is = is; unrefused = unrefused; apart = (o.0, separates_tells first_words second_words o.0 (r.first o.0 o.1).0) }))
 
 -- Two sheets that were opened, where the fit question said yes of their automata.
 module _ (first second : List ℕ) (x y : Automaton) (a : OnSheet first x) (b : OnSheet second y) (m n : Automaton) (is_x : m ≡ x) (is_y : n ≡ y) (yes : FitSum m n) (v : Verdict) (buffer : List ℕ)

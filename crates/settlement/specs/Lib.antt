@@ -1,2 +1,4 @@
+pub mod Openings
+pub mod Relations
 pub mod Settlements
 pub mod Steps

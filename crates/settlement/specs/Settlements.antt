@@ -6,10 +6,8 @@
 --   TellsApart        exactly one of the two accepts the word
 --   KeptBy            the one on this side accepts the word, and the other does not
 --   search_of         what the search over pairs of states gives from the two starts, over the disjoint union of two automata, where no two states are joined
---   opening           the answer to one sheet: its first fault, on this side, or none
 --   checked           the answer to two sheets: the first refusal that applies, of the first sheet, of the second, or of two rules that do not fit
 --   Settled           a settlement of two sheets is right; `drawn` is the automaton that is drawn on a sheet, as a textbook draws it
---   NotCopied         there is no memory for a copy of a sheet, which has no fault
 --   word_not_copied   the refusal of a word for which there is no memory
 --   WordNotCopied     there is none for the word that tells the two automata apart, and no other refusal applies
 --   Wanting           there is no memory for the first sheet, or for the second where the first has no fault, or for the word
@@ -22,18 +20,18 @@ use Rattle.automaton.specs.declared.side.Side.{Side}
 use Rattle.automaton.specs.declared.side.Side.TheVariants.{Neither, First, Second, Pair}
 use Rattle.automaton.specs.Automata.{Automaton}
 use Rattle.automaton.specs.Diagrams.{Accepts, Diagram}
-use Rattle.automaton.specs.Faults.{and_then, refusal, sided, sided_answer}
+use Rattle.automaton.specs.Faults.{refusal, sided}
 use Rattle.combine.specs.Combined.{disjoint_union, fit_answer, sum}
 use Rattle.combine.specs.Laws.{FitSum}
 use Rattle.explore.specs.declared.pair_cell.PairCell.{PairCell}
 use Rattle.explore.specs.Order.{First as IsFirst}
 use Rattle.explore.specs.Search.{Searched}
 use Rattle.register.specs.Calls.{found}
+use Rattle.search.specs.Relations.{OnlyIn}
 use Rattle.settlement.specs.declared.settlement.Settlement.{Settlement}
 use Rattle.settlement.specs.declared.settlement.Settlement.TheVariants.{Same, Differ}
-use Rattle.sheet.specs.Forms.{answered, out_of_memory}
+use Rattle.settlement.specs.Openings.{NoCopy, both_opened}
 use Rattle.sheet.specs.Layout.{WellFormed, drawn, tabled}
-use Rattle.sheet.specs.Opening.{table_form}
 
 abbrev pub IsSame : Settlement → Type 0
 IsSame (Same joins) = Unit {0}
@@ -58,9 +56,8 @@ word_of s = (settlement_value s).word
 abbrev pub keeper_of : Settlement → Option Side
 keeper_of s = (settlement_value s).keeper
 
-pub record Only (a b : Diagram) (w : List ℕ) : Type 0 where
-  pub accepts : Accepts a w
-  pub rejects : Accepts b w → ⊥
+abbrev pub Only : Diagram → Diagram → List ℕ → Type 0
+Only a b w = OnlyIn (Accepts a) (Accepts b) w
 
 abbrev pub TellsApart : Diagram → Diagram → List ℕ → Type 0
 TellsApart a b w = Only a b w ⊎ Only b a w
@@ -74,14 +71,8 @@ KeptBy a b Pair w = ⊥
 abbrev pub search_of : Automaton → Automaton → Searched PairCell
 search_of m n = found (disjoint_union m n) (λ x y. x == y) m.start (m.count + n.start)
 
-abbrev pub opening : Side → List ℕ → Result (Unit {0}) Fault
-opening side sheet = sided_answer side (answered (table_form.fault sheet))
-
 abbrev pub checked : List ℕ → List ℕ → Result (Unit {0}) Fault
-checked first second =
-    and_then (opening First first) (λ _.
-    and_then (opening Second second) (λ _.
-    fit_answer (tabled first).letters (tabled second).letters (sum (tabled first) (tabled second)) tt))
+checked first second = both_opened first second (fit_answer (tabled first).letters (tabled second).letters (sum (tabled first) (tabled second)) tt)
 
 pub record Settled (first second : List ℕ) (s : Settlement) : Type 0 where
   -- no refusal applies: both sheets are well-formed, and their rules fit
@@ -101,10 +92,6 @@ pub record Settled (first second : List ℕ) (s : Settlement) : Type 0 where
   pub word : word_of s ≡ (search_of (tabled first) (tabled second)).word
   pub joins : joins_of s ≡ length (search_of (tabled first) (tabled second)).noted
 
-pub record NotCopied (side : Side) (sheet : List ℕ) (f : Fault) : Type 0 where
-  pub is : f ≡ sided side out_of_memory
-  pub faultless : table_form.fault sheet ≡ None
-
 abbrev pub word_not_copied : Fault
 word_not_copied = sided Pair (refusal OutOfMemory Register)
 
@@ -114,7 +101,7 @@ pub record WordNotCopied (first second : List ℕ) (f : Fault) : Type 0 where
   pub apart : (w : List ℕ) × TellsApart (drawn first) (drawn second) w
 
 abbrev pub Wanting : List ℕ → List ℕ → Fault → Type 0
-Wanting first second f = NotCopied First first f ⊎ (((table_form.fault first ≡ None) × NotCopied Second second f) ⊎ WordNotCopied first second f)
+Wanting first second f = NoCopy first second f ⊎ WordNotCopied first second f
 
 abbrev pub Unsettled : List ℕ → List ℕ → Fault → Type 0
 Unsettled first second f = (checked first second ≡ Err f) ⊎ Wanting first second f

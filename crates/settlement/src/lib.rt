@@ -1,6 +1,12 @@
-// Settling whether the rules on two table sheets keep the same words.
+// Settling whether the rules on two table sheets keep the same words, and relating them by the words that they keep.
 #![tactic(auto)]
 
+mod opening;
+pub mod relation;
+#[cfg(test)]
+mod samples;
+#[cfg(test)]
+mod search_tests;
 pub mod settlement;
 #[cfg(test)]
 mod tests;

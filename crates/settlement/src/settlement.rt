@@ -4,9 +4,10 @@ ghost use Rattle.automaton.specs.Meanings.{meaning};
 ghost use Rattle.combine.specs.Laws.{FitSum};
 ghost use Rattle.register.specs.Verdicts.{verdict_value};
 ghost use Rattle.settlement.specs.Settlements.{Unsettled, Settled, word_not_copied};
-ghost use Rattle.settlement.specs.Steps.{Judged, OnSheet, Tells, Unopened};
+ghost use Rattle.settlement.specs.Steps.{Judged, Tells};
 
-use automaton::fault::{Fault, on_side};
+use crate::opening::{MOST_STATES, open_sheet};
+use automaton::fault::Fault;
 use automaton::kind::FaultKind;
 use automaton::layer::Layer;
 use automaton::rule::Rule;
@@ -16,12 +17,7 @@ use combine::fits::Fits;
 use explore::pair_cell::PairCell;
 use register::register::Register;
 use register::verdict::Verdict;
-use sheet::opening::SheetRule;
-use sheet::table::Table;
 use std::alloc::Global;
-
-// A rule has at most so many states. No comparing notes more cells, and no word that it finds has more letters.
-const MOST_STATES: usize = 4096;
 
 // Same: both rules keep the same words, and so many joins were made. Differ: this is the first word that only one of them keeps, the first or the second rule, and
 // so many joins were tried.
@@ -49,16 +45,6 @@ pub fn settle(heap: Global, first: &[u8], second: &[u8]) -> Result<Settlement, F
     let mut word = [0; MOST_STATES];
     let verdict = compare_starts(union, &mut word)?;
     settlement_of(heap, verdict, first.start_state(), &word)
-}
-
-// The rule on a sheet. A refusal gains the side.
-fn open_sheet(heap: Global, sheet: &[u8], side: Side) -> Result<Table, Fault>
-    ensures opened { IfOk result (λ table. OnSheet sheet.now (meaning ⟦<Table as Rule>⟧ table)) }
-    ensures refused { IfErr result (λ f. Unopened side sheet.now f) }
-{
-    let mut table = Table::blank(heap);
-    on_side(table.open(heap, sheet), side)?;
-    Ok(table)
 }
 
 // Compares the starts of two rules that fit. The word, if one is found, stands at the beginning of the buffer.

@@ -1,18 +1,12 @@
 // Registers over the rules on two sheets, beside each other.
+use crate::samples::{ALL, EVEN, open};
 use automaton::rule::Rule;
 use combine::disjoint_union::DisjointUnion;
 use explore::pair_cell::PairCell;
 use register::register::Register;
 use register::verdict::Verdict;
-use sheet::opening::SheetRule;
-use sheet::table::Table;
 use std::process::Abort;
 use std::test::Fail;
-
-// The words of a and b with an even number of a, and all words of a and b.
-const EVEN: [u8; 7] = [0x10, 0x06, 0x00, 0x80, 0x00, 0x00, 0x01];
-
-const ALL: [u8; 5] = [0x10, 0x02, 0x00, 0x00, 0x00];
 
 // A cell that was reached from cell 0 by the letter 0.
 fn cell(first: u16, second: u16) -> PairCell {
@@ -22,12 +16,6 @@ fn cell(first: u16, second: u16) -> PairCell {
         origin: 0,
         letter: 0,
     }
-}
-
-fn open(rt: &(impl Abort + AllocGlobal), sheet: &[u8]) -> Table {
-    let mut table = Table::blank(rt.alloc());
-    assert!(rt; table.open(rt.alloc(), sheet).is_ok());
-    table
 }
 
 #[test]

@@ -3,7 +3,7 @@
 
 mod buyer;
 mod files;
-mod report;
+mod lines;
 mod sale;
 mod tally;
 #[cfg(test)]

@@ -5,7 +5,7 @@ ghost use Rattle.catalogue.specs.Listing.{values};
 ghost use Rattle.trial.specs.Reports.{BuyerPrinted, counts_of, lots_text, Printed, Sale, tally_of};
 
 use crate::buyer::Buyer;
-use crate::report::{Ended, Refused, add, add_lot};
+use crate::lines::{Ended, Refused, add, add_lot};
 use crate::tally::Tally;
 use automaton::rule::Rule;
 use automaton::walk::keeps;

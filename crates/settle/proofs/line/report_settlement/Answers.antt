@@ -1,6 +1,6 @@
 use Rattle.std.specs.Prelude.{string_bytes}
 use Rattle.settle.proofs.Printing.{printed}
-use Rattle.settle.proofs.report.report_settlement.Goals as goal
+use Rattle.settle.proofs.line.report_settlement.Goals as goal
 
 pub returns-in-Ok : goal.returns-in-Ok
 returns-in-Ok c = printed string_bytes c.args.first.now c.args.second.now c.in-Ok.settlement c.in-Ok.ensures.settled c.to_string.result c.to_string.ensures.ok

@@ -1,8 +1,8 @@
 use Rattle.std.proofs.Common.{take}
 use Rattle.std.specs.Fmt.{HasWritten, IsPlainFormatter}
 use Rattle.std.specs.List.{flat_map}
-use Rattle.settle.specs.Reports.{letter_text}
-use Rattle.settle.proofs.report.LettersDisplay.fmt.Given as goal
+use Rattle.report.specs.Texts.{letter_text}
+use Rattle.report.proofs.text.LettersDisplay.fmt.Given as goal
 
 abbrev pub invariant-loop-letter : goal.invariant-loop-letter
 invariant-loop-letter g l =
