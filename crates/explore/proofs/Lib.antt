@@ -1,3 +1,4 @@
+pub mod Asked
 pub mod Decided
 pub mod Invariant
 pub mod Noted

@@ -2,11 +2,12 @@
 use Rattle.std.proofs.Common.{◌≡◌, ℕ, ◌+◌, ◌<◌, ◌≤◌, Bool, true, false, cond, ◌&&◌, ◌==◌, List, [], ◌∷◌, length, None, Ok, Err, Result, refl, sym, subst, ap, ◌∙◌, arith}
 use Rattle.std.specs.Prelude.{nat_lt, unwrap_or}
 use Rattle.std.proofs.Math.Path.{subst⁻¹}
-use Rattle.std.proofs.lemmas.Bool.{and_from, cond-false, cond-true, le-ltb, lt-ltb, ltb-true}
+use Rattle.std.proofs.lemmas.Bool.{and_from, cond-true, le-ltb, lt-ltb, ltb-true}
 use Rattle.automaton.specs.declared.fault.Fault.{Fault}
 use Rattle.automaton.specs.declared.kind.FaultKind.TheVariants.{NoSuchState, TooFewCells, BufferTooShort}
 use Rattle.automaton.specs.declared.rule.Rule.{Ghosts}
 use Rattle.automaton.specs.Automata.{Automaton, Lawful}
+use Rattle.automaton.specs.Faults.{and_then}
 use Rattle.automaton.specs.Meanings.{meaning}
 use Rattle.explore.specs.declared.pair_cell.PairCell.{PairCell}
 use Rattle.explore.specs.Search.{Searched}
@@ -33,7 +34,8 @@ checked_ok : {T : Type 0} (n p q c w : ℕ) (x v : T) → Ok v ≡ checked n p q
 checked_ok {T} n p q c w x v e = go (nat_lt p n) refl (nat_lt q n) refl (nat_lt c n) (nat_lt w n) (subst (λ (r : Result T Fault). Is r v) e refl)
   where
     go : (a : Bool) → nat_lt p n ≡ a → (b : Bool) → nat_lt q n ≡ b → (d f : Bool) →
-        Is (cond (a && b) (cond d (Err (refused TooFewCells)) (cond f (Err (refused BufferTooShort)) (Ok x))) (Err (refused NoSuchState))) v → (p < n) × (q < n) × (v ≡ x)
+        Is (cond (a && b) (and_then (cond d (Err (refused TooFewCells)) (Ok (tt {0}))) (λ _. and_then (cond f (Err (refused BufferTooShort)) (Ok (tt {0}))) (λ _. Ok x))) (Err (refused NoSuchState))) v →
+        (p < n) × (q < n) × (v ≡ x)
     go true i true j false false k = (ltb-true p n i, ltb-true q n j, k)
     go true i true j false true k = absurd k
     go true i true j true f k = absurd k
@@ -45,7 +47,7 @@ there n p q hp hq = and_from (nat_lt p n) (nat_lt q n) (lt-ltb p n hp) (lt-ltb q
 
 -- and it is accepted if both are there and there is room.
 checked_all : {T : Type 0} (n p q c w : ℕ) (x : T) → p < n → q < n → n ≤ c → n ≤ w → checked n p q c w x ≡ Ok x
-checked_all n p q c w x hp hq hc hw = cond-true (both_there n p q) _ _ (there n p q hp hq) ∙ cond-false (nat_lt c n) _ _ (le-ltb c n hc) ∙ cond-false (nat_lt w n) _ _ (le-ltb w n hw)
+checked_all n p q c w x hp hq hc hw = cond-true (both_there n p q) _ _ (there n p q hp hq) ∙ rw (le-ltb c n hc, le-ltb w n hw) refl
 
 -- What is joined is held by the tally's pairs, and its classes are with the tally's joins as many as the states.
 record Good (m : Automaton) (J : ℕ → ℕ → Bool) (t : Tally) : Type 0 where

@@ -1,18 +1,7 @@
-// Questions to a rule about states and letters that are there, which are not refused.
+// A question to a rule about a state and a letter that are there, which is not refused.
 ghost use Rattle.std.specs.Prelude.{◌≡◌, ◌<◌};
 
 use automaton::rule::Rule;
-
-// Whether a state that is there is kept.
-pub(crate) fn is_kept<R: Rule>(rule: &R, state: usize) -> bool
-    requires { state < R.Rule.count rule.now }
-    ensures { result ≡ R.Rule.kept rule.now state }
-{
-    match rule.kept_at(state) {
-        Ok(kept) => kept,
-        Err(_) => unreachable!(),
-    }
-}
 
 // The next state, from a state that is there, under a letter that is there.
 pub(crate) fn next_of<R: Rule>(rule: &R, state: usize, letter: usize) -> usize

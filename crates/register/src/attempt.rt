@@ -1,7 +1,8 @@
 // A comparing under way. The register's classes are left alone: joins are made in a copy.
-use crate::ask::{is_kept, next_of};
+use crate::ask::next_of;
 use crate::classes::Classes;
 use automaton::rule::Rule;
+use explore::ask::is_kept;
 use explore::pair_cell::PairCell;
 use explore::queue::Queue;
 

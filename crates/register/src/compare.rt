@@ -10,11 +10,12 @@ ghost use Rattle.register.specs.Relations.{Agree};
 ghost use Rattle.register.specs.declared.verdict.Verdict.TheVariants.{Differ};
 ghost use Rattle.register.specs.Verdicts.{verdict};
 
-use crate::ask::{is_kept, next_of};
+use crate::ask::next_of;
 use crate::attempt::Attempt;
 use crate::classes::Classes;
 use crate::verdict::Verdict;
 use automaton::rule::Rule;
+use explore::ask::is_kept;
 use explore::pair_cell::PairCell;
 use explore::queue::Queue;
 use explore::trail::write_word;

@@ -10,19 +10,9 @@ ghost use Rattle.search.specs.Hunts.{Stands, hunted, kept_states, next_cell};
 
 use crate::seen::Seen;
 use automaton::rule::Rule;
+use explore::ask::is_kept;
 use explore::queue::Queue;
 use explore::step_cell::StepCell;
-
-// Whether a state that is there is kept.
-pub(crate) fn is_kept<R: Rule>(rule: &R, state: usize) -> bool
-    requires { state < R.Rule.count rule.now }
-    ensures { result ≡ R.Rule.kept rule.now state }
-{
-    match rule.kept_at(state) {
-        Ok(kept) => kept,
-        Err(_) => unreachable!(),
-    }
-}
 
 // The cell that would note the state that this one leads to under a letter.
 fn cell_after<R: Rule>(rule: &R, at: usize, cell: StepCell, letter: usize) -> StepCell

@@ -12,6 +12,13 @@ use explore::step_cell::StepCell;
 use search::relation::{Relation, relate};
 use std::alloc::Global;
 
+// What a cell holds before it is noted.
+const NO_CELL: StepCell = StepCell {
+    state: 0,
+    origin: 0,
+    letter: 0,
+};
+
 // Relates the rules on two sheets: opens the first, then the second, and seeks the first words that only one of them keeps. Each of these is handed over in a buffer of
 // its own; one of 4,096 bytes is never too short. A refusal leaves both.
 pub fn relate_sheets(
@@ -40,10 +47,3 @@ pub fn relate_sheets(
         second_word,
     )
 }
-
-// What a cell holds before it is noted.
-const NO_CELL: StepCell = StepCell {
-    state: 0,
-    origin: 0,
-    letter: 0,
-};
