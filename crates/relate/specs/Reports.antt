@@ -2,7 +2,8 @@
 --   word_in        the word of a relation that stands at the beginning of a buffer, with so many letters; empty where the relation has none
 --   relation_text  the line of a relation, with its two words: the first that only the first sheet keeps, and the first that only the second keeps
 --   handed_text    the line of a relation, with the words that it hands over in two buffers
---   LineOf         the line of two sheets to which no refusal applies, with 4,096 bytes in each buffer: that of a relation that is right, with the words that it hands over
+--   LineOf         the line of two sheets to which no refusal applies, where there is room for words of 4,096 letters: that of a relation that is right, with the words that
+--                  it hands over in two buffers
 --   Printed        what is printed for two sheets: the line of the first refusal that applies, or if none does, that of a relation
 --   PrintedLaw     for any two sheets that is one line and no other
 use Rattle.std.specs.Prelude.{◌≡◌, ◌⊎◌, ℕ, List, [], ◌++◌, Option, Ok, Err, codes, unwrap_or}

@@ -46,6 +46,8 @@ fn relations(rt: HostRuntime) -> Result<(), Fail> {
 fn refusals(rt: HostRuntime) -> Result<(), Fail> {
     prints(&rt, &[0x10], &[0x00, 0x02, 0x00], "refused first 1\n")?;
     prints(&rt, &ALL, &[0x00, 0x02, 0x00], "refused second 2\n")?;
+    prints(&rt, &[0x00, 0x02, 0x00, 0x81], &ALL, "refused first 3\n")?;
+    prints(&rt, &ALL, &[0x00, 0x02, 0x00, 0x01], "refused second 4\n")?;
     prints(&rt, &ALL, &ALL_OF_A, "refused pair 5\n")
 }
 

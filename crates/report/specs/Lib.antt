@@ -1,1 +1,2 @@
+pub mod Files
 pub mod Texts

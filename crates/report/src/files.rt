@@ -1,7 +1,8 @@
-// Reading a file that may be missing. No contract says which bytes a file has; these say that a missing file is no error.
+// Reading a file that may be missing. No contract says which bytes a file has.
 ghost use Rattle.std.specs.Prelude.{◌≢◌};
 ghost use Rattle.std.specs.IoError.{error_kind};
 ghost use Rattle.std.specs.Result.{IfErr};
+ghost use Rattle.report.specs.Files.{Allowed};
 
 use std::fs::Files;
 use std::io::ErrorKind;
@@ -11,7 +12,14 @@ use std::{fs, io};
 pub fn read_file(rt: &(impl Files + AllocGlobal), path: &str) -> io::Result<Option<Vec<u8>>>
     ensures { IfErr result (λ e. error_kind e ≢ ErrorKind.NotFound) }
 {
-    match fs::read(rt, path) {
+    allow_missing(fs::read(rt, path))
+}
+
+// None where a file is missing. Any other error stays.
+fn allow_missing<T>(read: io::Result<T>) -> io::Result<Option<T>>
+    ensures { Allowed read result }
+{
+    match read {
         Ok(bytes) => Ok(Some(bytes)),
         Err(error) if error.kind() == ErrorKind::NotFound => Ok(None),
         Err(error) => Err(error),

@@ -30,6 +30,6 @@ pub record Right (m : Automaton) (a : FirstKept) (cells : List StepCell) (buffer
   pub shortest : (w : List ℕ) → handed a.length buffer ≡ Some w → (v : List ℕ) → Keeps m v → length w ≤ length v
   -- and it has as many as the answer says
   pub long : (w : List ℕ) → handed a.length buffer ≡ Some w → a.length ≡ Some (length w)
-  -- as many cells are noted as it says, and these cells and the word are what a search over single states gives, which words alone settle
+  -- as many cells are noted as it says, and these cells and the word are what a search over single states gives, which trails and words alone settle
   pub many : a.noted ≤ length cells
   pub sought : Sought m m.kept m.start (record { noted = take a.noted cells; word = handed a.length buffer })

@@ -1,6 +1,6 @@
 -- Which states were seen, by the mark of each.
 --   was_seen   the state has a mark
---   Added      of all states one more was seen, and no other
+--   Added      this state was seen, and of all others what was seen before
 use Rattle.std.specs.Prelude.{◌≡◌, ℕ, ◌<◌, Bool, true, false, ◌==◌, if◌then◌else◌, slice_index_or}
 use Rattle.search.specs.declared.seen.Seen.{Seen}
 

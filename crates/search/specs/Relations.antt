@@ -8,7 +8,8 @@
 --   relation         the relation that says these lengths
 --   only             what the search gives, in the difference of two automata, for a word that the first keeps and the second drops
 --   related          the relation of two automata
---   room_for_both    the answer to the room for both searches, over n states each: cells first, and of either the first search before the second
+--   room_for_both    the answer to the room for both searches, over n states each: cells first, and of either the first search before the second; and this, if none is
+--                    refused
 --   checked          the answer to two automata and the room: the first refusal that applies; and this, if none does
 --   Related          the relation of two languages is right, with the words that are handed over
 use Rattle.std.specs.Prelude.{◌≡◌, ℕ, ◌≤◌, ◌↔◌, List, length, Option, Some, None, Ok, Result, option_map}

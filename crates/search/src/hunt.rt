@@ -70,7 +70,7 @@ fn reach<R: Rule>(
     false
 }
 
-// Reaches the states that the state of this cell leads to, by the letters from 0 upward. The letter at which that ended, if it did.
+// Reaches the states that the state of this cell leads to, by the letters from 0 upward. The letter that led to a kept state, if one did.
 fn spread<R: Rule>(
     rule: &R,
     seen: &mut Seen,
@@ -94,7 +94,7 @@ fn spread<R: Rule>(
     None
 }
 
-// Takes the cells in order, each with all letters. The cell and the letter at which that ended, if it did before no cell was left.
+// Takes the cells in order, each with all letters. The cell and the letter that led to a kept state; none, if no cell is left before.
 fn search<R: Rule>(
     rule: &R,
     seen: &mut Seen,
@@ -114,7 +114,7 @@ fn search<R: Rule>(
     None
 }
 
-// Notes the start, which is not kept, and searches from it. The cell and the letter at which that ended, if it did before no cell was left.
+// Notes the start, which is not kept, and searches from it. The cell and the letter that led to a kept state; none, if no cell is left before.
 fn run<R: Rule>(rule: &R, queue: &mut Queue<'_, StepCell>) -> Option<(usize, u8)>
     requires none_noted { noted_cells queue.old ≡ [] }
     requires none_taken { queue.old.taken ≡ 0 }

@@ -17,7 +17,7 @@ use explore::room::{check_bytes, check_cells};
 use explore::step_cell::StepCell;
 
 // Equal: both rules keep the same words. FirstWithin: the second keeps all that the first keeps, and more. SecondWithin: the other way round. Neither: each keeps a
-// word that the other drops. A case has the number of letters of the first word that only one of the rules keeps, for each rule that keeps such words.
+// word that the other drops. `only_first` is the number of letters of the first word that the first rule keeps and the second drops, `only_second` the other way round.
 #[derive(Clone, Copy, PartialEq, Eq, Debug)]
 pub enum Relation {
     Equal,
@@ -48,7 +48,7 @@ impl From<Relation> for u8 {
 }
 
 // Relates two rules: seeks the first word that the first keeps and the second drops, and then the first word that the second keeps and the first drops, each with cells
-// and a buffer of its own. They hold afterwards what the first kept word leaves in them. A refusal changes nothing.
+// and a buffer of its own, which hold afterwards what is noted on the way, and the word. A refusal changes nothing.
 pub fn relate<A: Rule, B: Rule>(
     first: &A,
     second: &B,
@@ -74,9 +74,9 @@ pub fn relate<A: Rule, B: Rule>(
         first_word.len(),
         second_word.len(),
     )?;
-    let only_first = find(&only_first, first_cells, first_word);
-    let only_second = find(&only_second, second_cells, second_word);
-    Ok(relation_of(only_first.length, only_second.length))
+    let first_found = find(&only_first, first_cells, first_word);
+    let second_found = find(&only_second, second_cells, second_word);
+    Ok(relation_of(first_found.length, second_found.length))
 }
 
 // Whether there is room for both searches, over as many states each.

@@ -1,6 +1,6 @@
 -- What relating two table sheets promises: how the automata on them are related, by the words that they accept.
 --   relation_checked   the answer to two sheets, with so many bytes in the buffers for the two words: the first refusal that applies, of the first sheet, of the second,
---                      of rules that do not fit, of a buffer with fewer bytes than states; and if none does, the relation of the two automata
+--                      of rules that do not fit, of a buffer with fewer bytes than states; and if none does, the relation of the two automata. Each search has 4,096 cells
 --   SheetsRelated      the relation of two sheets is right, with the words that are handed over; `drawn` is the automaton that is drawn on a sheet
 --   Unrelated          a refusal of two sheets is the first that applies, but for want of memory
 use Rattle.std.specs.Prelude.{◌≡◌, ℕ, ◌⊎◌, List, Err, Result}
