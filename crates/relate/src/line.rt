@@ -3,7 +3,6 @@ ghost use Rattle.std.specs.Prelude.{◌≡◌, ◌≤◌, IfOk, IfSome, Some, le
 ghost use Rattle.relate.specs.Reports.{Printed, handed_text, relation_text};
 ghost use Rattle.search.specs.Relations.{relation_value};
 
-use automaton::kind::FaultKind;
 use report::text::{Letters, Refused};
 use search::relation::Relation;
 use settlement::relation::relate_sheets;
@@ -80,7 +79,6 @@ pub fn report_relation(heap: Global, first: &[u8], second: &[u8]) -> Result<Stri
     let mut second_buffer = [0; MOST_LETTERS];
     match relate_sheets(heap, first, second, &mut first_buffer, &mut second_buffer) {
         Ok(relation) => line_of(heap, relation, &first_buffer, &second_buffer),
-        Err(fault) if fault.kind == FaultKind::OutOfMemory => Err(AllocError),
-        Err(fault) => Refused(fault).to_string(heap),
+        Err(fault) => Refused::of(fault)?.to_string(heap),
     }
 }

@@ -43,9 +43,12 @@ fn words(rt: HostRuntime) -> Result<(), Fail> {
 #[test]
 fn refusals(rt: HostRuntime) -> Result<(), Fail> {
     let fault = Fault::new(FaultKind::TooManyNfaStates, Layer::Sheet).on(Side::Second);
-    shows(&rt, Refused(fault), "refused second 11\n")?;
+    shows(&rt, Refused::of(fault)?, "refused second 11\n")?;
     let fault = Fault::new(FaultKind::LettersDiffer, Layer::Combined).on(Side::Pair);
-    shows(&rt, Refused(fault), "refused pair 5\n")
+    shows(&rt, Refused::of(fault)?, "refused pair 5\n")?;
+    let fault = Fault::new(FaultKind::OutOfMemory, Layer::Sheet);
+    assert!(rt; Refused::of(fault).is_err());
+    Ok(())
 }
 
 // A file that is there, one that is empty, and one that is missing.

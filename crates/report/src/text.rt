@@ -1,9 +1,12 @@
 // The words of the lines that are printed: sides, words in letters, and refusals.
-ghost use Rattle.std.specs.Prelude.{◌≡◌, Some, encode_utf8};
+ghost use Rattle.std.specs.Prelude.{◌≡◌, ◌≢◌, IfErr, IfOk, Some, encode_utf8};
+ghost use Rattle.automaton.specs.declared.kind.FaultKind.TheVariants.{OutOfMemory};
 ghost use Rattle.report.specs.Texts.{letter_text, refused_text, side_text, word_text};
 
 use automaton::fault::Fault;
+use automaton::kind::FaultKind;
 use automaton::side::Side;
+use std::alloc::AllocError;
 use std::fmt;
 
 // The name of a side.
@@ -53,7 +56,20 @@ pub fn spell(letter: u8) -> char
 
 // The line of a refusal.
 #[derive(Clone, Copy)]
-pub struct Refused(pub Fault);
+pub struct Refused(Fault);
+
+impl Refused {
+    // The line of a refusal that is printed. Want of memory is none: it is an error of the program.
+    pub fn of(fault: Fault) -> Result<Refused, AllocError>
+        ensures printed { IfOk result (λ refused. (refused.0 ≡ fault) × (fault.kind ≢ OutOfMemory)) }
+        ensures wanting { IfErr result (λ e. fault.kind ≡ OutOfMemory) }
+    {
+        if fault.kind == FaultKind::OutOfMemory {
+            return Err(AllocError);
+        }
+        Ok(Refused(fault))
+    }
+}
 
 impl fmt::Display for Refused {
     ghost output = { λ r. Some (refused_text r.0) };

@@ -2,7 +2,6 @@
 ghost use Rattle.std.specs.Prelude.{IfOk, Some, string_bytes};
 ghost use Rattle.settle.specs.Reports.{Printed, settlement_text};
 
-use automaton::kind::FaultKind;
 use report::text::{Letters, Refused, SideName};
 use settlement::settlement::{Settlement, settle};
 use std::alloc::{AllocError, Global};
@@ -37,7 +36,6 @@ pub fn report_settlement(heap: Global, first: &[u8], second: &[u8]) -> Result<St
 {
     match settle(heap, first, second) {
         Ok(settlement) => Settled(&settlement).to_string(heap),
-        Err(fault) if fault.kind == FaultKind::OutOfMemory => Err(AllocError),
-        Err(fault) => Refused(fault).to_string(heap),
+        Err(fault) => Refused::of(fault)?.to_string(heap),
     }
 }
