@@ -1,7 +1,7 @@
 -- Automata: what a rule means.
---   Automaton    a complete deterministic automaton: states below `count`, letters below `letters`
+--   Automaton    a complete deterministic automaton: states below `count`, letters below `letters`; `automaton` makes one of its parts
 --   Lawful       its bounds: 1 to 4,096 states, 1 to 16 letters, the start and every next state below the count
---   blank        the automaton that keeps nothing: one state, one letter
+--   blank        the automaton that keeps nothing: one state, one letter; `blank_lawful` says that it keeps to the bounds
 use Rattle.std.specs.Prelude.{ℕ, ◌<◌, ◌≤◌, Bool, false}
 use Rattle.std.proofs.Common.{lit<, lit≤}
 

@@ -4,6 +4,7 @@
 --              lead from a state under a letter to a state
 --   Run        the states r0 r1 .. rn that a word of n letters labels: r0 is p, rn is q, and an arrow leads from each to the next
 --   Leads      some run of the word leads from p to q
+--   Accepted   the word is accepted from this start to this kept state: some run of it leads there
 --   Accepts    some run of the word leads from a start to a kept state
 --   diagram    the diagram of a deterministic automaton: one start, and one arrow from each state under each letter
 use Rattle.std.specs.Prelude.{◌≡◌, ℕ, suc, ◌<◌, Bool, true, List, length, ◌==◌, slice_index, slice_index_or}

@@ -1,9 +1,11 @@
 -- Which words a rule keeps and drops, and what walking and judging a word promise.
---   Keeps       the walk from the start ends at a kept state
+--   Keeps       every letter is there, and the walk from the start ends at a kept state
 --   Drops       every letter is there, and the word is not kept
 --   Walked      the promise of a walk: its answer is the defined one; it ends at q exactly when a run of the textbook leads
 --               there; and a longer word is walked on from where this one ends
 --   Unknown     the first letter that is not there stands at this position
+--   keeps_answer  what judging a word answers: whether it is kept; a letter that is not there is refused, so such a word is neither kept nor
+--               dropped
 --   Judged      the promise of judging a word: the answer is the defined one, yes exactly if the rule keeps the word, no exactly
 --               if it drops it, and a refusal exactly at the first letter that is not there; and the words kept are those that the
 --               textbook's automaton accepts, which is a theorem about the rule and speaks of no answer
@@ -28,7 +30,6 @@ pub record Unknown (m : Automaton) (w : List ℕ) (i : ℕ) : Type 0 where
   pub off : m.letters ≤ slice_index w i
   pub before : (j : ℕ) → j < i → slice_index w j < m.letters
 
--- whether a word is kept; a letter that is not there is refused, so such a word is neither kept nor dropped
 abbrev pub keeps_answer : Automaton → List ℕ → Result Bool Fault
 keeps_answer m w = and_then (walk_answer m m.start w) (λ q. kept_answer m.count m.kept q)
 

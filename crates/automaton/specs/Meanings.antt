@@ -1,4 +1,5 @@
--- The automaton that a value of a rule's type stands for.
+-- What a rule means.
+--   meaning   the automaton that a value of a rule's type stands for
 use Rattle.automaton.specs.Automata.{Automaton, automaton}
 use Rattle.automaton.specs.declared.rule.Rule.{Ghosts}
 

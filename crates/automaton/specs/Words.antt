@@ -1,6 +1,7 @@
 -- Words and their walks.
 --   Over           every letter of a word is below k
 --   walk           the state where the walk of a word ends, by taking the next state for each letter in turn
+--   walk_from      the walk from p of the rest w of a word, whose first letter stands at position i
 --   walk_answer    what walking answers: a state that is not there is refused, and then the first letter that is not there,
 --                  by its position
 --   resumed        the answer of a walk that was begun, at a state that is there, after so many letters: only a letter can be
@@ -26,7 +27,6 @@ abbrev pub walk : Automaton → ℕ → List ℕ → ℕ
 walk m p [] = p
 walk m p (a ∷ w) = walk m (m.next p a) w
 
--- the walk from p of the rest w of a word, whose first letter stands at position i
 abbrev pub walk_from : Automaton → ℕ → ℕ → List ℕ → Result ℕ Fault
 walk_from m i p [] = Ok p
 walk_from m i p (a ∷ w) = cond (nat_lt a m.letters) (walk_from m (i + 1) (m.next p a) w) (Err (no_letter i))

@@ -6,7 +6,7 @@ ghost use Rattle.automaton.specs.Automata.{automaton, Lawful};
 use crate::fault::Fault;
 use crate::size::Size;
 
-// What a rule means stands in five members, and each kind of rule gives all five, by a rule of the project (docs/DECISIONS.md, "Forms of code").
+// What a rule means stands in five members, and each kind of rule gives all five (docs/DECISIONS.md, "Forms of code").
 pub trait Rule {
     ghost count: { Self → ℕ };
 

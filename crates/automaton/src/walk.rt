@@ -33,7 +33,7 @@ fn follow<R: Rule>(rule: &R, from: usize, word: Word<'_>) -> Result<usize, Fault
         return Err(Fault::no_state());
     }
     let mut state = from;
-    // A `for` over the bytes with their index, by a rule of the project (docs/DECISIONS.md, "Forms of code").
+    // A `for` over the bytes with their index (docs/DECISIONS.md, "Forms of code").
     for (i, byte) in word.bytes().iter().enumerate() {
         match rule.next_from(state, word.letter(*byte)) {
             Ok(to) => state = to,

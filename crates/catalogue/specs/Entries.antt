@@ -1,10 +1,15 @@
 -- What the reader of a catalogue answers.
 --   longest       the most bytes that a catalogue has
 --   bad_line      the refusal of a line, at a place of the text
+--   told          a lot by its number and the bytes of its mark
+--   EntryValue    what an entry says: the number of its case, and its lot, if it is one
 --   entry_value   each case of an entry: 1 is a lot, which carries its number and its mark's bytes, and 0 is the end, which carries
 --                 nothing
 --   LotAt         the line at a place of a text is that of this lot: its mark is the part of the text after the opening, the digits
 --                 and a space, and the next line begins where it ends
+--   Given         what is handed out at a place is a lot that stands there, and the reader then stands behind it; or the end, at the text's length alone
+--   StuckAt       the refusal of the line at a place, whose byte i is the first that cannot go on
+--   Refused       the refusal at a place: of a text that is too long, or of the line there
 --   Entered       what one call of the reader answers from a place of a text, and where it stands then: the lot of the line that
 --                 begins there; the end, at the text's length alone; or a refusal, at 60,000 if the text is too long, and else at the
 --                 first byte that cannot go on. Only a lot moves the reader.
@@ -24,7 +29,6 @@ longest = 60000
 abbrev pub bad_line : ℕ → Fault
 bad_line place = refusal (BadLine place) Catalogue
 
--- a lot by its number and the bytes of its mark
 abbrev pub told : Lot → LotValue
 told lot = record { number = lot.number; mark = lot.mark.now }
 

@@ -3,11 +3,14 @@
 --   Number          the digits of a lot number: 1 to 6, the first of them not 0
 --   value           the number that they write
 --   Mark            one or more letters
+--   opened          the bytes LOT and a space, and what follows them
 --   line            the line of a number and a mark: the bytes LOT and a space, the digits, a space, the letters, and byte 10
 --   IsLine          a lot line, with its digits and its letters
 --   Begins          the beginning of some lot line, which may be all of it
 --   Stuck           the text's first byte that cannot go on stands at i: what is before it begins a line and is none yet, and with
 --                   the byte at i, if there is one, it begins no line
+--   LotValue        a lot by its number and the bytes of its mark
+--   LineOf          a lot line, with its lot
 --   Lines           a text that is the lines of these lots, one after another
 use Rattle.std.specs.Prelude.{◌≡◌, ℕ, suc, ◌-◌, ◌<◌, ◌≤◌, Bool, true, ◌&&◌, List, [], ◌∷◌, ◌++◌, map, length, take, nat_le, slice_index_or}
 use Rattle.std.specs.Int.Digits.{number_from_digits as number}
@@ -32,7 +35,6 @@ pub record Mark (letters : List ℕ) : Type 0 where
   pub some : 1 ≤ length letters
   pub all : AllByRecursion (λ b. letter b ≡ true) letters
 
--- the bytes LOT and a space, and what follows them
 abbrev pub opened : List ℕ → List ℕ
 opened rest = 76 ∷ 79 ∷ 84 ∷ 32 ∷ rest
 
@@ -53,12 +55,10 @@ pub record Stuck (text : List ℕ) (i : ℕ) : Type 0 where
   pub unfinished : (digits letters : List ℕ) → IsLine (take i text) digits letters → ⊥
   pub bad : i < length text → Begins (take (suc i) text) → ⊥
 
--- a lot by its number and the bytes of its mark
 pub record LotValue : Type 0 where
   pub number : ℕ
   pub mark : List ℕ
 
--- a lot line, with its lot
 pub record LineOf (lot : LotValue) (l digits : List ℕ) : Type 0 where
   pub line : IsLine l digits lot.mark
   pub number : lot.number ≡ value digits

@@ -1,5 +1,6 @@
 -- Reading a catalogue to its end.
 --   values    the lots in a list, by their numbers and the bytes of their marks
+--   EndsAt    the refusal of what is left of a text, after so many bytes, whose byte i is the first that cannot go on
 --   Ended     how the reading ends before what is left of a text, after so many bytes: with no refusal where nothing is left, and
 --             else with a refusal at the first byte that cannot go on
 --   Reading   a text is the lines of these lots, and then what ends the reading so

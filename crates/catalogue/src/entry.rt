@@ -9,7 +9,7 @@ pub struct Lot<'a> {
     pub mark: &'a [u8],
 }
 
-// A lot, or the end of the catalogue. It is an enum of its own and no `Option` by a rule of the project (docs/DECISIONS.md, "Forms of code"): two
+// A lot, or the end of the catalogue. It is an enum of its own and no `Option` (docs/DECISIONS.md, "Forms of code"): two
 // named cases, each with its number.
 #[derive(Clone, Copy, PartialEq, Eq, Debug)]
 pub enum Entry<'a> {

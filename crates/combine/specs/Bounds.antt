@@ -1,4 +1,10 @@
 -- Every combination keeps to the bounds of a rule.
+--   complement_lawful       the complement of an automaton that does
+--   product_lawful          the product of two automata over as many letters, if its states are not too many
+--   beside_lawful           two such automata beside each other, if the states are not too many
+--   fits_then               what holds of a combination that fits, and of the blank automaton, holds of the combination
+--   intersection_lawful, disjoint_union_lawful, difference_lawful
+--                           these combinations of any two automata that do
 use Rattle.std.specs.Prelude.{◌≡◌, ℕ, ◌+◌, ◌*◌, ◌≤◌, cond}
 use Rattle.std.proofs.Common.{arith, mul-pos, rules}
 use Rattle.std.proofs.lemmas.Grind.{common_steps}
@@ -15,7 +21,6 @@ product_lawful m n h k same few = grind (arith, common_steps, mul-pos, mul-add-l
 pub beside_lawful : (m n : Automaton) → Lawful m → Lawful n → m.letters ≡ n.letters → m.count + n.count ≤ 4096 → Lawful (beside m n)
 beside_lawful m n h k same few = grind (arith, common_steps)
 
--- what holds of a combination that fits, and of the blank automaton
 pub fits_then : (P : Automaton → Type 0) (m n : Automaton) (states : ℕ) (c : Automaton) → (m.letters ≡ n.letters → states ≤ 4096 → P c) → P blank → P (cond (fit m.letters n.letters states) c blank)
 fits_then P m n states c f e = grind (arith, common_steps)
 

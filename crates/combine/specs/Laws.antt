@@ -1,7 +1,7 @@
 -- What combined rules keep, in terms of the words that their parts keep and drop.
 --   Fit            rules of k and of l letters fit in a combination of so many states: k and l are equal, and the states are at most
 --                  4,096
---   Overfull       k and l are equal, and the states are more than that
+--   TooMany        k and l are equal, and the states are more than that
 --   Fitted         the promise of the fit question: the answer is the defined one; yes exactly if they fit; a refusal for the
 --                  letters exactly if these differ; and a refusal for the states exactly if it is these alone that do not fit
 --   FitPairs       two automata fit in their intersection, and so in their difference
@@ -28,7 +28,7 @@ pub record Fit (k l states : ℕ) : Type 0 where
   pub same : k ≡ l
   pub few : states ≤ most_states
 
-pub record Overfull (k l states : ℕ) : Type 0 where
+pub record TooMany (k l states : ℕ) : Type 0 where
   pub same : k ≡ l
   pub many : most_states < states
 
@@ -36,7 +36,7 @@ pub record Fitted (k l states : ℕ) (r : Result (Unit {0}) Fault) : Type 0 wher
   pub answer : r ≡ fit_answer k l states tt
   pub yes : (r ≡ Ok tt) ↔ Fit k l states
   pub differ : (r ≡ Err letters_differ) ↔ (k ≢ l)
-  pub overfull : (r ≡ Err too_many_states) ↔ Overfull k l states
+  pub too_many : (r ≡ Err too_many_states) ↔ TooMany k l states
 
 abbrev pub FitPairs : Automaton → Automaton → Type 0
 FitPairs m n = Fit m.letters n.letters (pairs m n)

@@ -11,7 +11,7 @@ use automaton::fault::Fault;
 use automaton::rule::Rule;
 use automaton::size::Size;
 
-// The rule that keeps what one keeps and another, the struck one, drops: the intersection of the one and the complement of the
+// The rule that keeps what one keeps and another drops: the intersection of the one and the complement of the
 // other. The bound says what is true of every complement; the type of the field asks for it.
 #[derive(Drop)]
 pub struct Difference<A: Rule, B: Rule>
@@ -25,14 +25,14 @@ impl<A: Rule, B: Rule> Difference<A, B> {
     ghost use Rattle.std.specs.Prelude.{◌≡◌};
     ghost use Rattle.combine.specs.Laws.{Subtracts};
 
-    // The rule that keeps what the first keeps and the struck one drops; the blank rule where they do not fit.
-    pub fn new(first: A, struck: B) -> Difference<A, B>
+    // The rule that keeps what the first keeps and the second drops; the blank rule where they do not fit.
+    pub fn new(first: A, second: B) -> Difference<A, B>
         ensures first { result.pair.first.rule ≡ first }
-        ensures struck { result.pair.second.rule.rule ≡ struck }
-        ensures law { Subtracts (meaning A.Rule first) (meaning B.Rule struck) (meaning ⟦<Difference<A, B> as Rule>⟧ result) }
+        ensures second { result.pair.second.rule.rule ≡ second }
+        ensures law { Subtracts (meaning A.Rule first) (meaning B.Rule second) (meaning ⟦<Difference<A, B> as Rule>⟧ result) }
     {
         Difference {
-            pair: Intersection::new(first, Complement::new(struck)),
+            pair: Intersection::new(first, Complement::new(second)),
         }
     }
 }

@@ -10,10 +10,7 @@ use automaton::kind::FaultKind;
 use automaton::layer::Layer;
 use automaton::rule::Rule;
 use automaton::side::Side;
-use automaton::size::Size;
-
-// A combination has at most so many states.
-const MOST_STATES: usize = 4096;
+use automaton::size::{MOST_STATES, Size};
 
 // The sizes of two rules, and how many states their combination has if they fit.
 #[derive(Clone, Copy, PartialEq, Eq, Debug)]

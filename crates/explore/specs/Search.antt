@@ -1,8 +1,8 @@
 -- The search: what it notes, in which order, and how it ends. Items are searched, from a first one on, by steps under letters. Each item that is
 -- reached is passed over if it was seen, or ends the search, or is noted in the next cell, with the cell and the letter that it was reached from and by.
---   Kind         what a kind of search is known by: its cells and its items; the item, the origin and the letter of a cell, and the cell that has them; a
---                cell for numbers that have no cell; the step from an item under a letter; whether an item was seen, by the cells noted so far; whether an
---                item ends the search
+--   Kind         what a kind of search is known by: its cells and its items; the item, the origin and the letter of a cell, and the cell that is noted for these
+--                (that it has them is seen in each kind); a cell for numbers that have no cell; the step from an item under a letter; whether an item was
+--                seen, by the cells noted so far; whether an item ends the search
 --   Progress     the cells noted so far; and the cell and the letter from and by which an item was reached that ended the search, if one was
 --   Searched     the cells noted in the end; and the word by which an item was reached that ended the search, if one was
 --   at           the cell of that number, or `none`

@@ -16,7 +16,7 @@ use Rattle.register.specs.Calls.{found}
 use Rattle.register.specs.Noted.{Noted}
 use Rattle.register.specs.Pairs.{Found as Came, Held, IsSmallest, Separates, kept_alike}
 use Rattle.register.specs.Relations.{Agree, Holds, Joins}
-use Rattle.register.specs.Runs.{IsSame, KeptFrom, Named, Right, Settled, Tally, handed}
+use Rattle.register.specs.Runs.{IsSame, KeptFrom, Named, Right, JoinedBy, Tally, handed}
 use Rattle.register.specs.Verdicts.{verdict, verdict_by, verdict_value}
 use Rattle.register.proofs.Alike.{found_alike}
 use Rattle.register.proofs.NewWords.{noted_carry}
@@ -82,8 +82,8 @@ module _ (m : Automaton) (l : Lawful m) (t : Tally) (J : ℕ → ℕ → Bool) (
       shortest = λ w e. first_short (Separates m (kept_alike m) p q) w (c.first w (is_found w e));
       named = λ w e. subst⁻¹ (λ (o : Option (List ℕ)). Named m p q (verdict_by m p q (length r.noted) o) w) (is_found w e) (named m p q (length r.noted) w (c.first w (is_found w e)).0);
       many = omega (arith, long, joins_noted m p q (length r.noted) r.word);
-      noted = subst⁻¹ (λ (z : List PairCell × Option (List ℕ)). Noted m (Settled m t) p q z.0 z.1) (ap₂ (λ (x : List PairCell) (y : Option (List ℕ)). (x, y)) cells_handed found_handed)
-          (noted_carry m p q (Joins J) (Settled m t) (λ x y hx hy. (h.smallest x y hx hy).0) (λ x y hx hy. (h.smallest x y hx hy).1) r.noted r.word c.noted);
+      noted = subst⁻¹ (λ (z : List PairCell × Option (List ℕ)). Noted m (JoinedBy m t) p q z.0 z.1) (ap₂ (λ (x : List PairCell) (y : Option (List ℕ)). (x, y)) cells_handed found_handed)
+          (noted_carry m p q (Joins J) (JoinedBy m t) (λ x y hx hy. (h.smallest x y hx hy).0) (λ x y hx hy. (h.smallest x y hx hy).1) r.noted r.word c.noted);
       defined = λ L s. sym (found_alike m l (kept_alike m) (kept_law.equivalence m) J L h.standing (smallest_agree m t.pairs J L h.smallest s) p q hp hq)
           ∙ sym is ∙ ap₂ (λ (cells : List PairCell) (w : Option (List ℕ)). record { noted = cells; word = w }) (sym cells_handed) (sym found_handed);
     }

@@ -18,7 +18,7 @@ use Rattle.register.specs.Calls.{Counted, found, found_in, joined_in, rule_of}
 use Rattle.register.specs.Refusals.{both_there, checked, refused}
 use Rattle.register.specs.Pairs.{Agreeing, Found as Came, Held, joins, kept_alike}
 use Rattle.register.specs.Relations.{Agree, HasClasses, classes}
-use Rattle.register.specs.Runs.{EachRight, Event, IsSame, Law, OneRight, Run, Settled, Step, Tally, asked, cleared, compared, counted, fresh, tallied, tally}
+use Rattle.register.specs.Runs.{EachRight, Event, IsSame, Law, OneRight, Run, JoinedBy, Step, Tally, asked, cleared, compared, counted, fresh, tallied, tally}
 use Rattle.register.specs.Verdicts.{verdict, verdict_value}
 use Rattle.register.proofs.Pairs.{pairs_law}
 use Rattle.register.proofs.Right.{joins_noted, right, same_none}
@@ -146,7 +146,7 @@ module _ {R : Type 0} (g : Ghosts R) where
       c ∙ cond-true (both_there (rule_of g reg).count p q) _ _ (there (rule_of g reg).count p q (omega (arith, states events reg run, hp)) (omega (arith, states events reg run, hq))),
       (good events reg run).held.smallest p q hp hq,
     );
-    counting = λ events reg run n c. subst⁻¹ (λ (k : ℕ). HasClasses m.count (Settled m (tally fresh events)) k) (number events reg run n c) (good events reg run).held.counted;
+    counting = λ events reg run n c. subst⁻¹ (λ (k : ℕ). HasClasses m.count (JoinedBy m (tally fresh events)) k) (number events reg run n c) (good events reg run).held.counted;
     total = λ events reg run n c. omega (arith, number events reg run n c, (good events reg run).total);
   }
     where

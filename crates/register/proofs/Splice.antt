@@ -3,7 +3,7 @@ use Rattle.std.proofs.Common.{◌≡◌, ℕ, ◌<◌, Bool, true, false, ◌&&�
 use Rattle.std.proofs.lemmas.Bool.Decides.{nat_tests}
 use Rattle.std.proofs.lemmas.Bool.{and_from, and_parts, both_ways, cases_Bool, cases_eq, eq-eqb, eqb-true}
 use Rattle.register.specs.Labels.{Inside}
-use Rattle.register.specs.Rings.{Keeps, Relabelled, Round, Spliced}
+use Rattle.register.specs.Rings.{StaysInClass, Relabelled, Round, Spliced}
 use Rattle.register.proofs.Labelling.{put, put_here, put_there}
 
 -- What a splice does at p, at q and at every other state.
@@ -40,7 +40,7 @@ put_below a b x n h k = grind (arith, nat_tests)
 pub inside_relabelled : (l m : List ℕ) (p q : ℕ) → q < 4096 → Inside l → Relabelled l m p (get_or l q 0) → Inside m
 inside_relabelled l m p q hq h e u hu = rw (e u hu) (put_below (get_or l p 0) (get_or l q 0) (get_or l u 0) 4096 (h q hq) (h u hu))
 
-pub keeps_spliced : (l m s r : List ℕ) (p q : ℕ) → p < 4096 → q < 4096 → Inside s → Keeps l s → Relabelled l m p (get_or l q 0) → Spliced s r p q → Keeps m r
+pub keeps_spliced : (l m s r : List ℕ) (p q : ℕ) → p < 4096 → q < 4096 → Inside s → StaysInClass l s → Relabelled l m p (get_or l q 0) → Spliced s r p q → StaysInClass m r
 keeps_spliced l m s r p q hp hq h k e x' u hu =
     let x = exchanged s r p q hp hq x' in
     let a = get_or l p 0 in
@@ -54,7 +54,7 @@ keeps_spliced l m s r p q hp hq h k e x' u hu =
     rw (i, x.second) t)
     (λ (np : u ≡ p → ⊥) (nq : u ≡ q → ⊥). rw (x.others u hu np nq) (e (get_or s u 0) (h u hu) ∙ ap (put a b) (k u hu) ∙ sym (e u hu)))
 
-module _ (l s r : List ℕ) (inside : Inside s) (keeps : Keeps l s) (round : Round l s) (P : ℕ → Bool) (on : (u : ℕ) → u < 4096 → P u ≡ true → P (get_or r u 0) ≡ true) where
+module _ (l s r : List ℕ) (inside : Inside s) (keeps : StaysInClass l s) (round : Round l s) (P : ℕ → Bool) (on : (u : ℕ) → u < 4096 → P u ≡ true → P (get_or r u 0) ≡ true) where
   -- A test that the new ring carries on holds at q where it holds at p,
   across : (p q : ℕ) → p < 4096 → q < 4096 → (get_or l p 0 ≡ get_or l q 0 → ⊥) → Exchanged s r p q → P p ≡ true → P q ≡ true
   across p q hp hq ne x e =
@@ -99,7 +99,7 @@ put_cases a b x y e =
     (cases_eq y a))
     (cases_eq x a)
 
-pub round_spliced : (l m s r : List ℕ) (p q : ℕ) → p < 4096 → q < 4096 → (get_or l p 0 ≡ get_or l q 0 → ⊥) → Inside s → Keeps l s → Round l s →
+pub round_spliced : (l m s r : List ℕ) (p q : ℕ) → p < 4096 → q < 4096 → (get_or l p 0 ≡ get_or l q 0 → ⊥) → Inside s → StaysInClass l s → Round l s →
     Relabelled l m p (get_or l q 0) → Spliced s r p q → Round m r
 round_spliced l m s r p q hp hq ne inside keeps round e x' w =
     go (put_cases (get_or l p 0) (get_or l q 0) (get_or l w.first 0) (get_or l w.other 0) (sym (e w.first w.first_below) ∙ w.one_class ∙ e w.other w.other_below))

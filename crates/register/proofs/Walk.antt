@@ -4,7 +4,7 @@ use Rattle.std.specs.List.{count_by}
 use Rattle.std.proofs.lemmas.Bool.{cases_eq, eq-eqb, eqb-false, ne_eqb, not-true, not_from_false}
 use Rattle.std.proofs.lemmas.List.Sums.{sum_by-set}
 use Rattle.register.specs.Labels.{Inside}
-use Rattle.register.specs.Rings.{Keeps, Relabelled, Round}
+use Rattle.register.specs.Rings.{StaysInClass, Relabelled, Round}
 
 -- The states that still have the label x are one fewer after each write.
 pub one_fewer : (l : List ℕ) (i x y : ℕ) → i < length l → get_or l i 0 ≡ x → (x ≡ y → ⊥) → count_by (λ z. z == x) (set l i y) < count_by (λ z. z == x) l
@@ -38,7 +38,7 @@ walk_begins l ring start to long h ne = record {
   begun = λ _. refl;
 }
 
-pub walk_steps : (l m ring : List ℕ) (start to at : ℕ) → Inside ring → Keeps l ring → Walking l m ring start to at → get_or m at 0 ≡ get_or l start 0 →
+pub walk_steps : (l m ring : List ℕ) (start to at : ℕ) → Inside ring → StaysInClass l ring → Walking l m ring start to at → get_or m at 0 ≡ get_or l start 0 →
     Walking l (set m at to) ring start to (get_or ring at 0)
 walk_steps l m ring start to at inside keeps w e = record {
   long = simp length-set w.long;
@@ -72,7 +72,7 @@ walk_steps l m ring start to at inside keeps w e = record {
     other u ne = get_or-set_other m at u to 0 ne
 
 -- Where the state that comes next has its new label, the whole class has.
-pub walk_ends : (l m ring : List ℕ) (start to at : ℕ) → start < 4096 → Keeps l ring → Round l ring → Walking l m ring start to at →
+pub walk_ends : (l m ring : List ℕ) (start to at : ℕ) → start < 4096 → StaysInClass l ring → Round l ring → Walking l m ring start to at →
     (get_or m at 0 ≡ get_or l start 0 → ⊥) → Relabelled l m start to
 walk_ends l m ring start to at h keeps round w e u hu =
     ⊎_elim

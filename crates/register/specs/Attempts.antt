@@ -8,7 +8,7 @@
 --   next_cell        the cell of the pair that a cell's pair leads to under a letter
 --   Stands           the noted pairs and no others are joined in the copy, and their states are there; each has made one class fewer; and there are as many cells as
 --                    states, so that there is always room
---   Kept             the classes after a comparing: after "same" they have the joins of the noted pairs, and after "differ" they are as they were
+--   Left             the classes that are left after a comparing: after "same" they have the joins of the noted pairs, and after "differ" they are as they were
 --   Goes             it has gone on: the same rule, the same classes before it, and the queue has gone on
 use Rattle.std.specs.Prelude.{◌≡◌, ℕ, ◌+◌, ◌≤◌, Bool, List, length}
 use Rattle.automaton.specs.declared.rule.Rule.{Ghosts}
@@ -43,9 +43,9 @@ found_by g rule classes p q = found (meaning g rule) (same classes.labels) p q
 abbrev pub next_cell : Automaton → PairCell → ℕ → ℕ → PairCell
 next_cell m c i a = record { first = m.next c.first a; second = m.next c.second a; origin = i; letter = a }
 
-abbrev pub Kept : ℕ → Classes → List PairCell → Verdict → Classes → Type 0
-Kept n old noted (Same joined) new = Agree n (same new.labels) (joins (same old.labels) noted)
-Kept n old noted (Differ long keeper tried) new = new ≡ old
+abbrev pub Left : ℕ → Classes → List PairCell → Verdict → Classes → Type 0
+Left n old noted (Same joined) new = Agree n (same new.labels) (joins (same old.labels) noted)
+Left n old noted (Differ long keeper tried) new = new ≡ old
 
 pub record Goes {R : Type 0} (old new : Attempt R) (before after : Queue PairCell) : Type 0 where
   pub rule : new.rule ≡ old.rule

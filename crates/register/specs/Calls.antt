@@ -1,10 +1,12 @@
 -- What each call of a register promises: one relation between the register before, the arguments, the answer and the register after.
 --   found             what the search over pairs gives from p and q on, over what is joined
+--   found_in          the same over what a register has joined
 --   rule_of           the automaton that the rule of a register means
 --   joined_in         whether a register has joined two states
+--   JoinedAfter       what is joined after comparing: after "same" what was, and the noted pairs; otherwise the register is as it was
 --   Compared          comparing: its answer; the rule stays; what is joined then; the noted cells stand at the beginning of the cells, and a word that was found at the
---                     beginning of the buffer
---   Asked             the joined-question: whether the register has joined the two states
+--                     beginning of the buffer; a refusal leaves both
+--   Asked             the joined-question: whether the register has joined the two states, or the refusal of a state that is not there
 --   Counted           counting: the number of lowest states of classes; there are representatives, and every list of them has this length
 --   Cleared           clearing: the rule stays, and no two different states are joined
 use Rattle.std.specs.Prelude.{◌≡◌, ℕ, Bool, cond, List, [], length, Ok, Err, Result, ◌==◌, unwrap_or}
@@ -38,16 +40,15 @@ module _ {R : Type 0} (g : Ghosts R) where
   abbrev pub found_in : Register R → ℕ → ℕ → Searched PairCell
   found_in r p q = found (rule_of r) (joined_in r) p q
 
-  -- what is joined after comparing: after "same" what was, and the noted pairs; otherwise the register is as it was
-  abbrev pub Joined : Register R → List PairCell → Result Verdict Fault → Register R → Type 0
-  Joined before noted (Ok (Same j)) after = Agree (rule_of before).count (joined_in after) (joins (joined_in before) noted)
-  Joined before noted (Ok (Differ long keeper tried)) after = after ≡ before
-  Joined before noted (Err f) after = after ≡ before
+  abbrev pub JoinedAfter : Register R → List PairCell → Result Verdict Fault → Register R → Type 0
+  JoinedAfter before noted (Ok (Same j)) after = Agree (rule_of before).count (joined_in after) (joins (joined_in before) noted)
+  JoinedAfter before noted (Ok (Differ long keeper tried)) after = after ≡ before
+  JoinedAfter before noted (Err f) after = after ≡ before
 
   pub record Compared (before : Register R) (p q : ℕ) (cells : List PairCell) (word : List ℕ) (r : Result Verdict Fault) (after : Register R) (cells_after : List PairCell) (word_after : List ℕ) : Type 0 where
     pub answer : r ≡ checked (rule_of before).count p q (length cells) (length word) (verdict (rule_of before) p q (found_in before p q))
     pub rule : after.rule ≡ before.rule
-    pub joined : Joined before (found_in before p q).noted r after
+    pub joined : JoinedAfter before (found_in before p q).noted r after
     pub noted : cells_after ≡ if_answered r (over (found_in before p q).noted cells) cells
     pub written : word_after ≡ if_answered r (over (unwrap_or (found_in before p q).word []) word) word
 

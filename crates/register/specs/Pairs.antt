@@ -8,7 +8,8 @@
 --   Standing     what J joins is a right-invariant equivalence, and no word separates states that it joins
 --   Led          the walks of a word over the letters lead from p and q to the pair of a cell
 --   IsSmallest   the test joins exactly what the smallest right-invariant equivalence joins that has a property
---   Held         J is what comparings have joined that began with these pairs and found no word
+--   Held         J joins exactly what the smallest right-invariant equivalence joins that holds these pairs; no word separates states that it joins; and that
+--                equivalence has as many classes as J
 --   Found        what comparing p and q gives, over what J joins
 --   PairsLaw     over every automaton, for all outcomes, over whatever was joined before, comparing any two states gives that
 --   Apart        J is `Held` with no pairs, and has as many classes as there are states

@@ -1,10 +1,10 @@
 -- A ring through each class of a table of 4,096 labels, and how many states have each label. A table of classes keeps this: every label and every
--- entry of the ring is below 4,096 (`Inside`), the ring stays in each class (`Keeps`) and goes through all of it (`Round`), and the sizes are right (`Sized`).
+-- entry of the ring is below 4,096 (`Inside`), the ring stays in each class (`StaysInClass`) and goes through all of it (`Round`), and the sizes are right (`Sized`).
 --   Numbered     every state has its own number
 --   Relabelled   the states with the label of `start` have the label `to` now, and every other state has the label that it had
 --   Spliced      the states after p and q are exchanged, and every other state is followed by the same as before
 --   Added        under `label` stands the sum of the sizes under it and under `other`, and every other size is as before
---   Keeps        the state after a state in its ring has its label
+--   StaysInClass the state after a state in its ring has its label
 --   Carried      a test that holds at a first state, and with each state at the one after it; and another state with the label of the first
 --   Round        from each state the ring leads to each of its class: every test that is carried along the ring holds at the other state
 --   class_size   how many states have the label of u
@@ -25,8 +25,8 @@ Spliced old new p q = (u : ℕ) → u < 4096 → slice_index new u ≡ (if u == 
 abbrev pub Added : List ℕ → List ℕ → ℕ → ℕ → Type 0
 Added old new label other = (x : ℕ) → x < 4096 → slice_index new x ≡ (if x == label then slice_index old label + slice_index old other else slice_index old x)
 
-abbrev pub Keeps : List ℕ → List ℕ → Type 0
-Keeps labels ring = (u : ℕ) → u < 4096 → slice_index labels (slice_index ring u) ≡ slice_index labels u
+abbrev pub StaysInClass : List ℕ → List ℕ → Type 0
+StaysInClass labels ring = (u : ℕ) → u < 4096 → slice_index labels (slice_index ring u) ≡ slice_index labels u
 
 pub record Carried (labels ring : List ℕ) : Type 0 where
   pub holds : ℕ → Bool

@@ -9,9 +9,11 @@
 --   Run            the calls lead from the one register to the other, each from what the one before it left
 --   handed         the word that a verdict hands over, at the beginning of the buffer
 --   IsSame         the verdict is "same"
---   Settled        the relation of the tally: what the smallest right-invariant equivalence joins that holds its pairs
+--   JoinedBy       the relation of the tally: what the smallest right-invariant equivalence joins that holds its pairs
+--   KeptFrom       one of two states keeps the word, and the other drops it
 --   Named          the state that a verdict names is one of the two, and keeps the word, and the other drops it
 --   Right          a comparing's answer is right, after calls with this tally
+--   OneRight       a comparing that has both states there, enough cells and a buffer long enough is accepted, and its answer is right; of other calls nothing is said
 --   EachRight      each comparing of the list that has both states there, enough cells and a buffer long enough is accepted, and its answer is right
 --   Law            the law over runs, from a register on
 use Rattle.std.specs.Prelude.{◌≡◌, ℕ, ◌+◌, ◌<◌, ◌≤◌, Bool, true, false, ◌⊎◌, ◌↔◌, List, [], ◌∷◌, length, take, Option, Some, None, Ok, Err, Result}
@@ -64,10 +66,9 @@ IsSame (Same joins) = Unit {0}
 IsSame (Differ long keeper tried) = ⊥
 
 module _ (m : Automaton) where
-  abbrev pub Settled : Tally → ℕ → ℕ → Type 0
-  Settled t x y = Smallest m (Holds t.pairs) x y
+  abbrev pub JoinedBy : Tally → ℕ → ℕ → Type 0
+  JoinedBy t x y = Smallest m (Holds t.pairs) x y
 
-  -- one of two states keeps the word, and the other drops it
   abbrev pub KeptFrom : ℕ → ℕ → List ℕ → Type 0
   KeptFrom keeper other w = (m.kept (walk m keeper w) ≡ true) × (m.kept (walk m other w) ≡ false)
 
@@ -87,11 +88,10 @@ module _ (m : Automaton) where
     -- as many cells are noted as it says, and the words of the noted pairs are exactly those whose pair is not known from the relation of the tally and the pairs of
     -- the words before
     pub many : (verdict_value v).joins ≤ length cells
-    pub noted : Noted m (Settled t) p q (take (verdict_value v).joins cells) (handed v word)
+    pub noted : Noted m (JoinedBy t) p q (take (verdict_value v).joins cells) (handed v word)
     -- the noted cells and the word are those of the defined steps, over any test that joins what the relation of the tally joins
     pub defined : (J : ℕ → ℕ → Bool) → IsSmallest m (Holds t.pairs) J → found m J p q ≡ record { noted = take (verdict_value v).joins cells; word = handed v word }
 
-  -- the comparing is accepted and right, if both states are there and there is room enough
   abbrev pub OneRight : Tally → Event → Type 0
   OneRight t (compared p q cells word r cells_after word_after) =
       p < m.count → q < m.count → m.count ≤ length cells → m.count ≤ length word → (v : Verdict) × (r ≡ Ok v) × Right t p q v cells_after word_after
@@ -120,9 +120,9 @@ module _ {R : Type 0} (g : Ghosts R) where
     pub comparings : (events : List Event) (reg : Register R) → Run opened events reg → EachRight (rule_of g opened) fresh events
     -- the joined-question answers for any two states, yes exactly when the relation of the tally joins them
     pub asking : (events : List Event) (reg : Register R) → Run opened events reg → (p q : ℕ) (r : Result Bool Fault) → Asked g reg p q r →
-        p < (rule_of g opened).count → q < (rule_of g opened).count → (b : Bool) × (r ≡ Ok b) × ((b ≡ true) ↔ Settled (rule_of g opened) (tally fresh events) p q)
+        p < (rule_of g opened).count → q < (rule_of g opened).count → (b : Bool) × (r ≡ Ok b) × ((b ≡ true) ↔ JoinedBy (rule_of g opened) (tally fresh events) p q)
     -- counting answers the number of classes of that relation
     pub counting : (events : List Event) (reg : Register R) → Run opened events reg → (n : ℕ) → Counted g reg n →
-        HasClasses (rule_of g opened).count (Settled (rule_of g opened) (tally fresh events)) n
+        HasClasses (rule_of g opened).count (JoinedBy (rule_of g opened) (tally fresh events)) n
     -- and that number and the joins of the tally are together as many as the states
     pub total : (events : List Event) (reg : Register R) → Run opened events reg → (n : ℕ) → Counted g reg n → n + (tally fresh events).sum ≡ (rule_of g opened).count

@@ -3,8 +3,8 @@
 --                   length and the state that keeps it
 --   verdict_value   each case of a verdict: 0 is "same", which carries the joins, and 1 is "differ", which carries the word's length, the state that keeps it,
 --                   and the joins tried
---   verdict         what comparing p and q answers, where the search gives this: "same" if it found no word; otherwise "differ", and the state that keeps the
---                   word is p, if the walk from p ends at a kept state, and else q
+--   verdict_by      "same" where no word was found, and else "differ"; p keeps the word if the walk from p ends at a kept state, and else q does
+--   verdict         what comparing p and q answers, where the search gives this: `verdict_by` of the joins and the word
 use Rattle.std.specs.Prelude.{ℕ, cond, List, length, Option, Some, None}
 use Rattle.automaton.specs.Automata.{Automaton}
 use Rattle.automaton.specs.Words.{walk}

@@ -2,7 +2,7 @@
 ghost use Rattle.std.specs.Prelude.{◌≡◌, ℕ, ◌+◌, ◌<◌, ◌≤◌, ◌==◌, false, length, ◌≢◌, slice_index};
 ghost use Rattle.register.specs.Labels.{Inside, same};
 ghost use Rattle.register.specs.Relations.{Agree, HasClasses, Joins, classes, join};
-ghost use Rattle.register.specs.Rings.{Added, Keeps, Numbered, Relabelled, Round, Sized, Spliced, class_size};
+ghost use Rattle.register.specs.Rings.{Added, StaysInClass, Numbered, Relabelled, Round, Sized, Spliced, class_size};
 
 // Two states are of one class exactly if they have one label. `ring` gives the state after a state in its class, round and round;
 // `sizes` has the size of each class under its label.
@@ -13,7 +13,7 @@ pub(crate) struct Classes {
     sizes: [u16; 4096],
     ghost labels_inside: { Inside labels },
     ghost ring_inside: { Inside ring },
-    ghost keeps: { Keeps labels ring },
+    ghost keeps: { StaysInClass labels ring },
     ghost round: { Round labels ring },
     ghost sized: { Sized labels sizes },
 }
@@ -33,7 +33,7 @@ fn number(table: &mut [u16; 4096])
 fn relabel(labels: &mut [u16; 4096], ring: &[u16; 4096], start: usize, to: u16)
     requires start_below { start < 4096 }
     requires inside { Inside ring.now }
-    requires keeps { Keeps labels.old ring.now }
+    requires keeps { StaysInClass labels.old ring.now }
     requires round { Round labels.old ring.now }
     requires another { slice_index labels.old start ≢ to }
     ensures long { length labels.new ≡ 4096 }

@@ -2,7 +2,7 @@
 ghost use Rattle.std.specs.Prelude.{◌≡◌, ◌<◌, ◌≤◌, ◌++◌, ◌∷◌, [], cond, false, length, slice_index_or, unwrap_or};
 ghost use Rattle.automaton.specs.Meanings.{meaning};
 ghost use Rattle.explore.specs.Written.{over};
-ghost use Rattle.register.specs.Attempts.{Kept, found_by, no_cell, searched_by};
+ghost use Rattle.register.specs.Attempts.{Left, found_by, no_cell, searched_by};
 ghost use Rattle.register.specs.Labels.{same};
 ghost use Rattle.register.specs.Pairs.{CellsBelow, joins};
 ghost use Rattle.register.specs.Noted.{trail_at};
@@ -97,7 +97,7 @@ pub(crate) fn compare<R: Rule>(
     requires room { R.Rule.count rule.now ≤ length cells.old }
     requires long { R.Rule.count rule.now ≤ length word.old }
     ensures verdict { result ≡ verdict (meaning R.Rule rule.now) p q (found_by R.Rule rule.now classes.old p q) }
-    ensures kept { Kept (R.Rule.count rule.now) classes.old (found_by R.Rule rule.now classes.old p q).noted result classes.new }
+    ensures kept { Left (R.Rule.count rule.now) classes.old (found_by R.Rule rule.now classes.old p q).noted result classes.new }
     ensures cells { cells.new ≡ over (found_by R.Rule rule.now classes.old p q).noted cells.old }
     ensures word { word.new ≡ over (unwrap_or (found_by R.Rule rule.now classes.old p q).word []) word.old }
 {

@@ -22,9 +22,9 @@ pub struct Register<R: Rule> {
 
 impl<R: Rule> Register<R> {
     ghost use Rattle.std.specs.Prelude.{◌≡◌, ◌==◌};
-    ghost use Rattle.register.specs.Calls.{Asked, Cleared, Compared, Counted, joined_in};
+    ghost use Rattle.register.specs.Calls.{joined_in};
     ghost use Rattle.register.specs.Relations.{Agree};
-    ghost use Rattle.register.specs.Runs.{Law};
+    ghost use Rattle.register.specs.Runs.{Law, Step, asked, cleared, compared, counted};
 
     // A register over this rule, in which no two different states are joined. Whatever is called on it from here on keeps the law.
     #[tactic(auto, using(crate::proofs::Runs::law))]
@@ -41,7 +41,7 @@ impl<R: Rule> Register<R> {
 
     // Whether two states are joined. A state that is not there is refused.
     pub fn joined(&self, p: usize, q: usize) -> Result<bool, Fault>
-        ensures { Asked R.Rule self.now p q result }
+        ensures { Step R.Rule self.now (asked p q result) self.now }
     {
         check_states(self.rule.size().states, p, q)?;
         Ok(self.classes.same(p, q))
@@ -49,14 +49,14 @@ impl<R: Rule> Register<R> {
 
     // The number of classes.
     pub fn class_count(&self) -> usize
-        ensures { Counted R.Rule self.now result }
+        ensures { Step R.Rule self.now (counted result) self.now }
     {
         self.classes.count(self.rule.size().states)
     }
 
     // Parts all states again.
     pub fn clear(&mut self)
-        ensures { Cleared R.Rule self.old self.new }
+        ensures { Step R.Rule self.old cleared self.new }
     {
         self.classes.clear();
     }
@@ -70,7 +70,7 @@ impl<R: Rule> Register<R> {
         cells: &mut [PairCell],
         word: &mut [u8],
     ) -> Result<Verdict, Fault>
-        ensures { Compared R.Rule self.old p q cells.old word.old result self.new cells.new word.new }
+        ensures { Step R.Rule self.old (compared p q cells.old word.old result cells.new word.new) self.new }
     {
         let n = self.rule.size().states;
         check_states(n, p, q)?;

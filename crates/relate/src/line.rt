@@ -3,14 +3,12 @@ ghost use Rattle.std.specs.Prelude.{◌≡◌, ◌≤◌, IfOk, IfSome, Some, le
 ghost use Rattle.relate.specs.Reports.{Printed, handed_text, relation_text};
 ghost use Rattle.search.specs.Relations.{relation_value};
 
+use automaton::size::MOST_STATES;
 use report::text::{Letters, Refused};
 use search::relation::Relation;
 use settlement::relation::relate_sheets;
 use std::alloc::{AllocError, Global};
 use std::fmt;
-
-// A buffer for a word has so many bytes. The first word that only one of two rules keeps has no more letters.
-const MOST_LETTERS: usize = 4096;
 
 // The line of a relation, with the first word that only the first rule keeps and the first that only the second keeps, each empty where there is none.
 #[derive(Clone, Copy)]
@@ -75,8 +73,8 @@ fn line_of(
 pub fn report_relation(heap: Global, first: &[u8], second: &[u8]) -> Result<String, AllocError>
     ensures { IfOk result (λ line. Printed first.now second.now (string_bytes line)) }
 {
-    let mut first_buffer = [0; MOST_LETTERS];
-    let mut second_buffer = [0; MOST_LETTERS];
+    let mut first_buffer = [0; MOST_STATES];
+    let mut second_buffer = [0; MOST_STATES];
     match relate_sheets(heap, first, second, &mut first_buffer, &mut second_buffer) {
         Ok(relation) => line_of(heap, relation, &first_buffer, &second_buffer),
         Err(fault) => Refused::of(fault)?.to_string(heap),

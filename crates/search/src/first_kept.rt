@@ -8,10 +8,10 @@ ghost use Rattle.search.specs.FirstKept.{Right, first_kept, found};
 ghost use Rattle.search.specs.Hunts.{word_to};
 
 use crate::hunt::hunt;
-use crate::seen::MOST_STATES;
 use automaton::fault::Fault;
 use automaton::layer::Layer;
 use automaton::rule::Rule;
+use automaton::size::MOST_STATES;
 use explore::ask::is_kept;
 use explore::room::{check_bytes, check_cells};
 use explore::step_cell::StepCell;

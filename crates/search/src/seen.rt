@@ -1,8 +1,7 @@
 // Which states were seen.
 ghost use Rattle.std.specs.Prelude.{◌≡◌, ℕ, ◌<◌, false, length};
 
-// A rule has at most so many states.
-pub(crate) const MOST_STATES: usize = 4096;
+use automaton::size::MOST_STATES;
 
 // A mark for each state.
 #[derive(Drop)]

@@ -14,7 +14,7 @@ use Rattle.register.specs.declared.register.Register.{Register}
 use Rattle.register.specs.declared.verdict.Verdict.{Verdict}
 use Rattle.register.specs.Calls.{Compared, rule_of}
 use Rattle.register.specs.Runs.{Law, OneRight, Right, compared, fresh}
-use Rattle.settlement.specs.Steps.{Judged}
+use Rattle.settlement.specs.Steps.{VerdictRight}
 
 module _ {R : Type 0} (g : Ghosts R) (reg : Register R) (law : Law g reg) (p q : ℕ) (cells : List PairCell) (word : List ℕ) (r : Result Verdict Fault) (after : Register R)
     (cells_after : List PairCell) (word_after : List ℕ) (c : Compared g reg p q cells word r after cells_after word_after) where
@@ -30,10 +30,10 @@ module _ {R : Type 0} (g : Ghosts R) (reg : Register R) (law : Law g reg) (p q :
     count : (rule_of g reg).count ≡ m.count + n.count
     count = omega (arith, ap (λ (z : Automaton). z.count) is, ((unites m n l).beside fit).count)
 
-    pub judged : IsOkAnd r (λ v. Judged m n v word_after)
+    pub judged : IsOkAnd r (λ v. VerdictRight m n v word_after)
     judged =
         let d = one (omega (arith, count, l.begins, at_p)) (omega (arith, count, k.begins, at_q)) (omega (arith, count, fit.few)) (omega (arith, count, fit.few)) in
-        subst⁻¹ (λ (z : Result Verdict Fault). IsOkAnd z (λ v. Judged m n v word_after)) d.1 (record {
+        subst⁻¹ (λ (z : Result Verdict Fault). IsOkAnd z (λ v. VerdictRight m n v word_after)) d.1 (record {
           cells = cells_after;
           right = subst (λ (x : ℕ). Right (disjoint_union m n) fresh x (m.count + n.start) d.0 cells_after word_after) at_p
               (subst (λ (x : ℕ). Right (disjoint_union m n) fresh p x d.0 cells_after word_after) at_q

@@ -16,11 +16,11 @@ use Rattle.register.specs.Verdicts.{verdict_value}
 use Rattle.settlement.specs.declared.settlement.Settlement.{Settlement}
 use Rattle.settlement.specs.declared.settlement.Settlement.TheVariants.{Same as SameWords, Differ as OtherWords}
 use Rattle.settlement.specs.Settlements.{IsSame, KeptBy, word_of}
-use Rattle.settlement.specs.Steps.{Judged}
+use Rattle.settlement.specs.Steps.{VerdictRight}
 use Rattle.settlement.proofs.Parting.{WordsOf, only}
 
 -- The word of a verdict stands within the buffer.
-pub within : (m n : Automaton) (v : Verdict) (buffer : List ℕ) → Judged m n v buffer → IfSome (verdict_value v).word (λ w. w.0 ≤ length buffer)
+pub within : (m n : Automaton) (v : Verdict) (buffer : List ℕ) → VerdictRight m n v buffer → IfSome (verdict_value v).word (λ w. w.0 ≤ length buffer)
 within m n (Same j) buffer r = tt
 within m n (Differ long keeper tried) buffer r = omega (arith, (r.right.named (take long buffer) refl).0, length-take long buffer)
 

@@ -22,7 +22,7 @@ use Rattle.register.proofs.Standing.{apart_law, kept_law}
 use Rattle.settlement.specs.declared.settlement.Settlement.{Settlement}
 use Rattle.settlement.specs.Settlements.{Settled, Unsettled, checked, keeper_of, search_of, word_not_copied, word_of}
 use Rattle.settlement.specs.Openings.{OnSheet}
-use Rattle.settlement.specs.Steps.{Judged, Tells}
+use Rattle.settlement.specs.Steps.{VerdictRight, Tells}
 use Rattle.settlement.proofs.Parting.{WordsOf, alike_none, none_alike, separates_tells, tells_separates}
 use Rattle.settlement.proofs.Settling.{has_word, kept_by, same_said}
 use Rattle.sheet.specs.Bounds.{tabled_lawful}
@@ -42,7 +42,7 @@ words_of f g = record {
 
 -- Two well-formed sheets whose rules fit, and a right verdict on the starts.
 module _ (first second : List ℕ) (f : WellFormed first) (g : WellFormed second) (fit : FitSum (tabled first) (tabled second)) (v : Verdict) (buffer : List ℕ)
-    (j : Judged (tabled first) (tabled second) v buffer) where
+    (j : VerdictRight (tabled first) (tabled second) v buffer) where
   abbrev m : Automaton
   m = tabled first
 
@@ -110,7 +110,7 @@ module _ (first second : List ℕ) (f : WellFormed first) (g : WellFormed second
 
 -- Two sheets that were opened, where the fit question said yes of their automata.
 module _ (first second : List ℕ) (x y : Automaton) (a : OnSheet first x) (b : OnSheet second y) (m n : Automaton) (is_x : m ≡ x) (is_y : n ≡ y) (yes : FitSum m n) (v : Verdict) (buffer : List ℕ)
-    (j : Judged m n v buffer) where
+    (j : VerdictRight m n v buffer) where
   -- what holds of the two automata holds of those on the sheets
   moved : (P : Automaton → Automaton → Type 0) → P m n → P (tabled first) (tabled second)
   moved P h = subst (λ (z : Automaton). P (tabled first) z) (is_y ∙ b.means) (subst (λ (z : Automaton). P z n) (is_x ∙ a.means) h)
@@ -118,8 +118,8 @@ module _ (first second : List ℕ) (x y : Automaton) (a : OnSheet first x) (b : 
   fit : FitSum (tabled first) (tabled second)
   fit = moved FitSum yes
 
-  judged : Judged (tabled first) (tabled second) v buffer
-  judged = moved (λ (d e : Automaton). Judged d e v buffer) j
+  judged : VerdictRight (tabled first) (tabled second) v buffer
+  judged = moved (λ (d e : Automaton). VerdictRight d e v buffer) j
 
   fits : fit_answer (tabled first).letters (tabled second).letters (sum (tabled first) (tabled second)) tt ≡ Ok (tt {0})
   fits = cond-true _ _ _ (eq-eqb _ _ fit.same) ∙ cond-true _ _ _ (le-leb _ _ fit.few)

@@ -1,5 +1,6 @@
 -- What settling two table sheets promises: whether the automata on them accept the same words.
 --   IsSame            the settlement is "same"
+--   SettlementValue   what a settlement says: the number of its case, the joins, and of a word that tells the two apart the word and the side that accepts it
 --   settlement_value  each case of a settlement: 0 is "same", which carries the joins, and 1 is "differ", which carries the side that accepts the word, the word, and
 --                     the joins tried; `joins_of`, `word_of` and `keeper_of` read them
 --   Only              the first automaton accepts the word, and the second does not

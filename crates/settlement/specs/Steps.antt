@@ -1,6 +1,6 @@
 -- What the steps of settling two sheets promise to each other.
---   Judged     a verdict on the two starts, with the word at the beginning of a buffer, is right in the sense of the register's law
---   Tells      a settlement says what a verdict says: the side is the first if the verdict names the first's start, and else the second
+--   VerdictRight   a verdict on the two starts, with the word at the beginning of a buffer, is right in the sense of the register's law
+--   Tells          a settlement says what a verdict says: the side is the first if the verdict names the first's start, and else the second
 use Rattle.std.specs.Prelude.{◌≡◌, ℕ, ◌+◌, cond, List, option_map, ◌==◌}
 use Rattle.automaton.specs.declared.side.Side.TheVariants.{First, Second}
 use Rattle.automaton.specs.Automata.{Automaton}
@@ -12,7 +12,7 @@ use Rattle.register.specs.Verdicts.{verdict_value}
 use Rattle.settlement.specs.declared.settlement.Settlement.{Settlement}
 use Rattle.settlement.specs.Settlements.{joins_of, keeper_of, word_of}
 
-pub record Judged (m n : Automaton) (v : Verdict) (buffer : List ℕ) : Type 0 where
+pub record VerdictRight (m n : Automaton) (v : Verdict) (buffer : List ℕ) : Type 0 where
   pub cells : List PairCell
   pub right : Right (disjoint_union m n) fresh m.start (m.count + n.start) v cells buffer
 

@@ -3,10 +3,6 @@
 
 mod opening;
 pub mod relation;
-#[cfg(test)]
-mod samples;
-#[cfg(test)]
-mod search_tests;
 pub mod settlement;
 #[cfg(test)]
 mod tests;

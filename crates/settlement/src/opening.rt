@@ -10,9 +10,6 @@ use sheet::opening::SheetRule;
 use sheet::table::Table;
 use std::alloc::Global;
 
-// A rule has at most so many states. No search notes more cells, and no word that it finds has more letters.
-pub(crate) const MOST_STATES: usize = 4096;
-
 // The rule on a sheet. A refusal gains the side.
 pub(crate) fn open_sheet(heap: Global, sheet: &[u8], side: Side) -> Result<Table, Fault>
     ensures opened { IfOk result (λ table. OnSheet sheet.now (meaning ⟦<Table as Rule>⟧ table)) }

@@ -5,9 +5,10 @@ ghost use Rattle.search.specs.Relations.{only};
 ghost use Rattle.settlement.specs.Relations.{SheetsRelated, Unrelated, relation_checked};
 ghost use Rattle.sheet.specs.Layout.{tabled};
 
-use crate::opening::{MOST_STATES, open_sheet};
+use crate::opening::open_sheet;
 use automaton::fault::Fault;
 use automaton::side::Side;
+use automaton::size::MOST_STATES;
 use explore::step_cell::StepCell;
 use search::relation::{Relation, relate};
 use std::alloc::Global;

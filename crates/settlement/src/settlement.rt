@@ -3,15 +3,16 @@ ghost use Rattle.std.specs.Prelude.{◌≡◌, ◌+◌, ◌≤◌, IfErr, IfOk, 
 ghost use Rattle.automaton.specs.Meanings.{meaning};
 ghost use Rattle.combine.specs.Laws.{FitSum};
 ghost use Rattle.register.specs.Verdicts.{verdict_value};
-ghost use Rattle.settlement.specs.Settlements.{Unsettled, Settled, word_not_copied};
-ghost use Rattle.settlement.specs.Steps.{Judged, Tells};
+ghost use Rattle.settlement.specs.Settlements.{Unsettled, Settled, settlement_value, word_not_copied};
+ghost use Rattle.settlement.specs.Steps.{VerdictRight, Tells};
 
-use crate::opening::{MOST_STATES, open_sheet};
+use crate::opening::open_sheet;
 use automaton::fault::Fault;
 use automaton::kind::FaultKind;
 use automaton::layer::Layer;
 use automaton::rule::Rule;
 use automaton::side::Side;
+use automaton::size::MOST_STATES;
 use combine::disjoint_union::DisjointUnion;
 use combine::fits::Fits;
 use explore::pair_cell::PairCell;
@@ -31,6 +32,18 @@ pub enum Settlement {
         word: Vec<u8>,
         tried: usize,
     },
+}
+
+// The number of the case: 0 for the same, 1 if they differ.
+impl From<&Settlement> for u8 {
+    ghost from_gives = { λ s n. n ≡ (settlement_value s.now).number };
+
+    fn from(settlement: &Settlement) -> u8 {
+        match settlement {
+            Settlement::Same { .. } => 0,
+            Settlement::Differ { .. } => 1,
+        }
+    }
 }
 
 // Settles the rules on two sheets: opens the first, then the second, and compares their starts in the disjoint union.
@@ -53,7 +66,7 @@ fn compare_starts<A: Rule + Drop, B: Rule + Drop>(
     word: &mut [u8; MOST_STATES],
 ) -> Result<Verdict, Fault>
     requires { FitSum (meaning A.Rule union.first.rule) (meaning B.Rule union.second.rule) }
-    ensures { IsOkAnd result (λ v. Judged (meaning A.Rule union.first.rule) (meaning B.Rule union.second.rule) v word.new) }
+    ensures { IsOkAnd result (λ v. VerdictRight (meaning A.Rule union.first.rule) (meaning B.Rule union.second.rule) v word.new) }
 {
     let mut cells = [PairCell {
         first: 0,

@@ -1,4 +1,4 @@
-// Fields of bits across bytes, the most significant bit first, by shifts and masks as a rule of the project asks (docs/DECISIONS.md, "Forms of
+// Fields of bits across bytes, the most significant bit first, by shifts and masks (docs/DECISIONS.md, "Forms of
 // code"). A place and a width are no struct of their own: each caller makes both anew and hands them on once. The casts that are
 // left are between `usize` and `u32`, which have no `From`, or cut a number to its lowest bits.
 ghost use Rattle.std.specs.Prelude.{◌≡◌, ℕ, ◌+◌, ◌*◌, ◌%◌, ◌^◌, ◌<◌, ◌≤◌, ◌⊎◌, length, nat_le, slice_index, slice_set};

@@ -3,11 +3,15 @@
 --   outcome       what a lot's line says of an answer: kept, dropped, or the place of a refusal, which judging a mark gives as the
 --                 position of the first letter that the rule has not
 --   lot_text      the line of a lot, and lots_text the lines of some lots
+--   kept_one, dropped_one, unknown_one
+--                 1 for an answer of this kind, and else 0
+--   Counts        how many answers of each kind there are; counts_of is a tally so
 --   tally_of      how many of some lots are kept, dropped, and of an unknown letter
 --   sum_text      the last line
 --   refused_text  the line of a refused sheet
 --   ended_text    the line of the refusal that ended the list, which names its place; nothing if there was none
 --   sale_text     the lines of a sale, of the lots that were read and of how the reading ended
+--   Sold          the lines of these lots, and of this end of the list, are added, and reading the catalogue gives them
 --   Sale          the lines of a sale are added to what was printed before: those of what reading the catalogue to its end gives
 --   PrintedBy     all that is printed for a catalogue and a sheet of this first fault and of this automaton: for a refused sheet its line
 --                 and nothing else, and else the lines of the sale
@@ -43,7 +47,6 @@ lot_text lot answer = (codes "LOT " ++ (decimal lot.number ++ codes " ")) ++ (lo
 abbrev pub lots_text : Automaton → List LotValue → List ℕ
 lots_text m lots = flat_map (λ lot. lot_text lot (answer_to m lot)) lots
 
--- 1 for an answer of a kind, and else 0
 abbrev pub kept_one : Result Bool Fault → ℕ
 kept_one (Ok true) = 1
 kept_one (Ok false) = 0
@@ -59,7 +62,6 @@ unknown_one (Ok true) = 0
 unknown_one (Ok false) = 0
 unknown_one (Err f) = 1
 
--- how many of each kind there are, as a tally has them
 pub record Counts : Type 0 where
   pub kept : ℕ
   pub dropped : ℕ
