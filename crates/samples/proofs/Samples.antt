@@ -1,5 +1,5 @@
 -- The worked examples, computed.
-use Rattle.std.proofs.Common.{◌≡◌, ℕ, zero, suc, ◌+◌, ◌%◌, ◌<◌, ◌↔◌, Bool, true, false, List, [], ◌∷◌, cond, Option, ◌==◌, arith, ap, lit<, refl, subst, sym, ◌∙◌}
+use Rattle.std.proofs.Common.{◌≡◌, ℕ, zero, suc, ◌+◌, ◌%◌, ◌<◌, ◌↔◌, Bool, true, false, List, [], ◌∷◌, cond, Option, ◌==◌, arith, ap, lit<, refl, subst, sym, ◌∙◌, Ok}
 use Rattle.std.proofs.lemmas.Bool.{both_ways, eq-eqb, eqb-true}
 use Rattle.std.proofs.lemmas.List.Sums.{sum_by-cons}
 use Rattle.std.specs.List.{count_by}
@@ -12,6 +12,7 @@ use Rattle.explore.specs.Search.{Searched, spread, taken}
 use Rattle.explore.specs.Trails.{trail_in}
 use Rattle.register.specs.Calls.{found as compared}
 use Rattle.register.specs.Pairs.{kept_alike}
+use Rattle.register.specs.Refusals.{checked}
 use Rattle.register.specs.Relations.{Agree}
 use Rattle.register.specs.declared.verdict.Verdict.{Verdict}
 use Rattle.register.specs.Verdicts.{verdict}
@@ -85,10 +86,10 @@ over_equals m l p q hp hq J a =
 
 -- So the answer is known from a computation over equality.
 compares : (m : Automaton) → Lawful m → (p q : ℕ) → p < m.count → q < m.count → (answer : Verdict) (cells : List PairCell) (word : Option (List ℕ)) →
-    compared m (λ x y. x == y) p q ≡ record { noted = cells; word = word } → verdict m p q (record { noted = cells; word = word }) ≡ answer → Compares m p q answer cells word
+    compared m (λ x y. x == y) p q ≡ record { noted = cells; word = word } → checked m.count p q m.count m.count (verdict m p q (record { noted = cells; word = word })) ≡ Ok answer → Compares m p q answer cells word
 compares m l p q hp hq answer cells word e v J a =
     let found = over_equals m l p q hp hq J a ∙ e in
-    (found, ap (λ (r : Searched PairCell). verdict m p q r) found ∙ v)
+    (found, ap (λ (r : Searched PairCell). checked m.count p q m.count m.count (verdict m p q r)) found ∙ v)
 
 even_lawful : Lawful (tabled even_a)
 unfolding bit field first

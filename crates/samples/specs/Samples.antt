@@ -7,22 +7,28 @@
 --   even_and_all  the even number of a beside all words: the states of the first are 0 and 1, and that of the second is 2
 --   pair_cell     a cell by its two states, its origin and its letter
 --   number        the number of the refusal, if a sheet is refused
---   Compares      comparing two states of an automaton, where no two different states are joined, answers this, with these cells noted and this word found
+--   Compares      comparing two states of an automaton, where no two different states are joined, with as many cells and bytes as there are states, answers this, with
+--                 these cells noted and this word found
+--   first_answer  what the first kept word of an automaton answers, with as many cells and bytes as there are states
 --   Samples       the examples
-use Rattle.std.specs.Prelude.{◌≡◌, ℕ, ◌%◌, Bool, ◌↔◌, List, [], ◌∷◌, Some, None, Option, option_map, ◌==◌}
+use Rattle.std.specs.Prelude.{◌≡◌, ℕ, ◌%◌, Bool, ◌↔◌, List, [], ◌∷◌, Some, None, Ok, Option, Result, option_map, ◌==◌}
 use Rattle.std.specs.List.{count_by}
 use Rattle.automaton.specs.declared.fault.Fault.{Fault}
+use Rattle.automaton.specs.declared.layer.Layer.TheVariants.{Search}
 use Rattle.automaton.specs.Automata.{Automaton}
 use Rattle.automaton.specs.Faults.{row_of}
 use Rattle.automaton.specs.Languages.{Keeps}
 use Rattle.automaton.specs.Words.{Over}
 use Rattle.combine.specs.Combined.{complement, disjoint_union}
 use Rattle.explore.specs.declared.pair_cell.PairCell.{PairCell}
+use Rattle.explore.specs.Room.{room_checked}
 use Rattle.register.specs.declared.verdict.Verdict.{Verdict}
 use Rattle.register.specs.declared.verdict.Verdict.TheVariants.{Same, Differ}
 use Rattle.register.specs.Calls.{found as compared}
+use Rattle.register.specs.Refusals.{checked}
 use Rattle.register.specs.Relations.{Agree}
 use Rattle.register.specs.Verdicts.{verdict}
+use Rattle.search.specs.declared.first_kept.FirstKept.{FirstKept}
 use Rattle.search.specs.FirstKept.{first_kept, found}
 use Rattle.sheet.specs.Layout.{tabled}
 use Rattle.sheet.specs.NfaLayout.{setwise}
@@ -55,7 +61,10 @@ pair_cell p q i a = record { first = p; second = q; origin = i; letter = a }
 
 abbrev pub Compares : Automaton → ℕ → ℕ → Verdict → List PairCell → Option (List ℕ) → Type 0
 Compares m p q answer cells word = (J : ℕ → ℕ → Bool) → Agree m.count J (λ x y. x == y) →
-    (compared m J p q ≡ record { noted = cells; word = word }) × (verdict m p q (compared m J p q) ≡ answer)
+    (compared m J p q ≡ record { noted = cells; word = word }) × (checked m.count p q m.count m.count (verdict m p q (compared m J p q)) ≡ Ok answer)
+
+abbrev pub first_answer : Automaton → Result FirstKept Fault
+first_answer m = room_checked Search m.count m.count m.count (first_kept m)
 
 pub record Samples : Type 0 where
   -- 00 02 00 00 is accepted; it has one letter and one state, and keeps every word of a
@@ -77,9 +86,9 @@ pub record Samples : Type 0 where
   pub only_a_start : (setwise only_a).start ≡ 2
   pub only_a_keeps : (w : List ℕ) → Keeps (setwise only_a) w ↔ (w ≡ 0 ∷ [])
   -- the first word with an odd number of a is a, with one state noted; the first with an even number is the empty one, with none noted
-  pub odd_first : first_kept (complement (tabled even_a)) ≡ record { length = Some 1; noted = 1 }
+  pub odd_first : first_answer (complement (tabled even_a)) ≡ Ok (record { length = Some 1; noted = 1 })
   pub odd_found : found (complement (tabled even_a)) ≡ record { noted = record { state = 0; origin = 0; letter = 0 } ∷ []; word = Some (0 ∷ []) }
-  pub even_first : first_kept (tabled even_a) ≡ record { length = Some 0; noted = 0 }
+  pub even_first : first_answer (tabled even_a) ≡ Ok (record { length = Some 0; noted = 0 })
   pub even_found : found (tabled even_a) ≡ record { noted = []; word = Some [] }
   -- refused sheets: one with fewer bytes than its header asks for, one with a filling bit set, one with a next state that is not there, and one with too many own states
   pub wrong_length : number (table_form.fault (0x00 ∷ 0x02 ∷ 0x00 ∷ [])) ≡ Some 2
