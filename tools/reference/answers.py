@@ -1,12 +1,13 @@
 """Answers a text of cases, after docs/CROSSCHECK.md."""
 
+import calls
 import catalogue
 import rules
 import searches
 import sheets
 import show
 from register import Register
-from rules import FIRST, SECOND, Fault
+from rules import Fault
 
 
 def data_of(word):
@@ -87,32 +88,14 @@ class Answers:
                 said += [len(queue.noted)] + queue.noted
         self.write("ok", show.row(said), show.cell_buffer(int(size), [(state, 7, 3) for state in queue.noted], False))
 
-    def opened(self, first, second):
-        """The rules on two table sheets."""
-        both = []
-        for side, sheet in ((FIRST, first), (SECOND, second)):
-            try:
-                both.append(sheets.table(data_of(sheet)))
-            except Fault as refusal:
-                raise refusal.on(side)
-        return both
-
     def on_settle(self, first, second):
         try:
-            one, other = self.opened(first, second)
-            refusal = rules.fits(one, other, one.count + other.count)
-            if refusal:
-                raise refusal
+            joins, side, word = calls.settle(data_of(first), data_of(second))
         except Fault as refusal:
             return self.write(show.fault(refusal))
-        both = rules.union(one, other)
-        register = Register(both)
-        start = one.count + other.start
-        noted, word = register.compare(one.start, start, both.count, both.count)
         if word is None:
-            return self.write("ok same", len(noted))
-        side = FIRST if register.kept_by(one.start, start, word) else SECOND
-        self.write("ok differ", side, len(noted), show.row(word))
+            return self.write("ok same", joins)
+        self.write("ok differ", side, joins, show.row(word))
 
     def related(self, ask, rooms):
         """The line of two searches, `ask`, and of their cells, where they are lent some, and buffers."""
@@ -132,11 +115,8 @@ class Answers:
         self.write(said, *shown)
 
     def on_sheets(self, first, second, first_room, second_room):
-        def ask():
-            one, other = self.opened(first, second)
-            return searches.relate(one, other, 4096, int(first_room), 4096, int(second_room))
-
-        self.related(ask, [(None, int(first_room)), (None, int(second_room))])
+        rooms = int(first_room), int(second_room)
+        self.related(lambda: calls.relate(data_of(first), data_of(second), *rooms), [(None, room) for room in rooms])
 
     def on_relate(self, first_cells, first_room, second_cells, second_room, *words):
         sizes = [int(size) for size in (first_cells, first_room, second_cells, second_room)]
@@ -234,10 +214,7 @@ class Answers:
 
     def ask_keeps(self, rule, form, data):
         word = rules.spelled(form, data_of(data))
-        said = show.answer(lambda: int(rules.keeps(rule, word)))
-        if self.single is not None and said.startswith("ok"):
-            assert said == f"ok {int(self.single.accepts(word))}", "the subset construction and the runs of single states disagree"
-        self.write(said)
+        self.write(show.answer(lambda: int(calls.keeps(rule, word, self.single))))
 
     def ask_walk(self, rule, state, form, data):
         self.write(show.answer(lambda: rules.walk(rule, int(state), rules.spelled(form, data_of(data)))))

@@ -47,10 +47,12 @@ impl<R: Rule> Rule for Complement<R> {
         self.rule.start_state()
     }
 
+    #[inline(always)]
     fn kept_at(&self, state: usize) -> Result<bool, Fault> {
         Ok(!self.rule.kept_at(state)?)
     }
 
+    #[inline(always)]
     fn next_from(&self, state: usize, letter: usize) -> Result<usize, Fault> {
         self.rule.next_from(state, letter)
     }

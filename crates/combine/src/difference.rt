@@ -71,10 +71,12 @@ impl<A: Rule, B: Rule> Rule for Difference<A, B> {
         self.pair.start_state()
     }
 
+    #[inline(always)]
     fn kept_at(&self, state: usize) -> Result<bool, Fault> {
         self.pair.kept_at(state)
     }
 
+    #[inline(always)]
     fn next_from(&self, state: usize, letter: usize) -> Result<usize, Fault> {
         self.pair.next_from(state, letter)
     }

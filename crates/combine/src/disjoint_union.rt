@@ -80,6 +80,7 @@ impl<A: Rule, B: Rule> Rule for DisjointUnion<A, B> {
         self.first.rule.start_state()
     }
 
+    #[inline(always)]
     fn kept_at(&self, state: usize) -> Result<bool, Fault> {
         let Ok(sizes) = self.sizes().fitting() else {
             return Blank.kept_at(state);
@@ -91,6 +92,7 @@ impl<A: Rule, B: Rule> Rule for DisjointUnion<A, B> {
         self.second.rule.kept_at(state - n)
     }
 
+    #[inline(always)]
     fn next_from(&self, state: usize, letter: usize) -> Result<usize, Fault> {
         let Ok(sizes) = self.sizes().fitting() else {
             return Blank.next_from(state, letter);

@@ -83,6 +83,7 @@ impl<A: Rule, B: Rule> Rule for Intersection<A, B> {
         )
     }
 
+    #[inline(always)]
     fn kept_at(&self, state: usize) -> Result<bool, Fault> {
         let Ok(sizes) = self.sizes().fitting() else {
             return Blank.kept_at(state);
@@ -93,6 +94,7 @@ impl<A: Rule, B: Rule> Rule for Intersection<A, B> {
         Ok(first && second)
     }
 
+    #[inline(always)]
     fn next_from(&self, state: usize, letter: usize) -> Result<usize, Fault> {
         let Ok(sizes) = self.sizes().fitting() else {
             return Blank.next_from(state, letter);

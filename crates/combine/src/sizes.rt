@@ -65,7 +65,8 @@ impl Sizes {
         if state >= self.first.states * self.second.states {
             return Err(Fault::no_state());
         }
-        Ok((state / self.second.states, state % self.second.states))
+        let (state, row) = (state as u32, self.second.states as u32);
+        Ok(((state / row) as usize, (state % row) as usize))
     }
 
     // The number of a pair.

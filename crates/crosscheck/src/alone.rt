@@ -5,6 +5,7 @@ use crate::words::Words;
 use anyhow::Result;
 use automaton::fault::Fault;
 use automaton::layer::Layer;
+use automaton::size::MOST_STATES;
 use explore::room::{check_bytes, check_cells};
 use settlement::settlement::{Settlement, settle};
 use sheet::bits::{read_field, write_field};
@@ -82,17 +83,18 @@ pub fn show_settle(out: &mut String, words: &mut Words<'_>) -> Result<()> {
     let heap: Global = *out.allocator();
     let first = words.bytes(heap)?;
     let second = words.bytes(heap)?;
-    match settle(heap, first.as_slice(), second.as_slice()) {
+    let mut buffer = [0; MOST_STATES];
+    match settle(heap, first.as_slice(), second.as_slice(), &mut buffer) {
         Ok(Settlement::Same { joins }) => write!(out, "ok same {joins}\n")?,
         Ok(
             Settlement::Differ {
                 kept_by,
-                word,
+                length,
                 tried,
             },
         ) => {
             let side = u8::from(kept_by);
-            let word = Row::of_bytes(heap, word.as_slice())?;
+            let word = Row::of_bytes(heap, &buffer[..length])?;
             write!(out, "ok differ {side} {tried} {word}\n")?;
         }
         Err(fault) => {

@@ -57,22 +57,22 @@ kind_by g r before = pairs (meaning g r.now) (kept_alike (meaning g r.now)) (sam
 -- A comparing that has gone on, and on again.
 module _ {R : Type 0} where
   pub goes_yet : (a : Attempt R) (q : Queue PairCell) → Goes a a q q
-  goes_yet a q = record { rule = refl; classes = refl; grown = grown_yet q }
+  goes_yet a q = record { rule = refl; classes = refl; lent = refl; grown = grown_yet q }
 
   pub goes_then : (a b c : Attempt R) (q r s : Queue PairCell) → Goes a b q r → Goes b c r s → Goes a c q s
-  goes_then a b c q r s f h = record { rule = h.rule ∙ f.rule; classes = h.classes ∙ f.classes; grown = grown_then q r s f.grown h.grown }
+  goes_then a b c q r s f h = record { rule = h.rule ∙ f.rule; classes = h.classes ∙ f.classes; lent = h.lent ∙ f.lent; grown = grown_then q r s f.grown h.grown }
 
   -- a cell is taken
   pub goes_taken : (a b : Attempt R) (q r s : Queue PairCell) → Goes a b q r → s.cells.ghost_name ≡ r.cells.ghost_name → noted_cells s ≡ noted_cells r → further_cells s ≡ further_cells r →
       Goes a b q s
-  goes_taken a b q r s f same noted further = record { rule = f.rule; classes = f.classes; grown = grown_taken q r s f.grown same noted further }
+  goes_taken a b q r s f same noted further = record { rule = f.rule; classes = f.classes; lent = f.lent; grown = grown_taken q r s f.grown same noted further }
 
 -- A search that has gone on: a and b are attempts, with their queues q and r.
 module _ {R : Type 0} (g : Ghosts R) where
   -- at first nothing is noted
-  pub stands_first : (a : Attempt R) (q : Queue PairCell) → a.after ≡ a.before.now → noted_cells q ≡ [] → (rule_in g a).count ≤ length (further_cells q) → Stands g a q
+  pub stands_first : (a : Attempt R) (q : Queue PairCell) → a.after.now ≡ a.before.now → noted_cells q ≡ [] → (rule_in g a).count ≤ length (further_cells q) → Stands g a q
   stands_first a q e none room =
-      let few = classes_few (same a.after.labels) (rule_in g a).count in
+      let few = classes_few (same a.after.now.labels) (rule_in g a).count in
       record {
         joined = λ u v hu hv. rw (none, e) refl;
         inside = λ k d h. absurd (omega (arith, h, ap length none));
@@ -83,7 +83,7 @@ module _ {R : Type 0} (g : Ghosts R) where
   -- a cell is taken, and the noted ones stand
   pub stands_taken : (a : Attempt R) (q r : Queue PairCell) → Stands g a q → noted_cells r ≡ noted_cells q → further_cells r ≡ further_cells q → Stands g a r
   stands_taken a q r s noted further = record {
-    joined = subst (λ (cells : List PairCell). Agree 4096 (same a.after.labels) (joins (same a.before.now.labels) cells)) (sym noted) s.joined;
+    joined = subst (λ (cells : List PairCell). Agree 4096 (same a.after.now.labels) (joins (same a.before.now.labels) cells)) (sym noted) s.joined;
     inside = subst (λ (cells : List PairCell). CellsBelow (rule_in g a).count cells) (sym noted) s.inside;
     fewer = omega (arith, s.fewer, ap length noted);
     room = omega (arith, s.room, ap length noted, ap length further);

@@ -1,4 +1,4 @@
-// A comparing under way. The register's classes are left alone: joins are made in a copy.
+// A comparing under way. Joins are made in the register's classes, and a copy of how these were before is kept.
 use crate::ask::next_of;
 use crate::classes::Classes;
 use automaton::rule::Rule;
@@ -6,13 +6,13 @@ use explore::ask::is_kept;
 use explore::pair_cell::PairCell;
 use explore::queue::Queue;
 
-// The rule, the classes before the comparing, and these with the noted pairs joined. The queue of the noted pairs stands by itself, so that
+// The rule, the classes as they were before the comparing, and these with the noted pairs joined. The queue of the noted pairs stands by itself, so that
 // whoever lends its cells learns what they hold.
 #[derive(Drop)]
 pub(crate) struct Attempt<'a, R: Rule> {
     rule: &'a R,
     before: &'a Classes,
-    pub(crate) after: Classes,
+    after: &'a mut Classes,
 }
 
 impl<'a, R: Rule> Attempt<'a, R> {
@@ -24,16 +24,16 @@ impl<'a, R: Rule> Attempt<'a, R> {
     ghost use Rattle.register.specs.Attempts.{Goes, Stands, kind_of, next_cell, rule_in, searched_pairs};
     ghost use Rattle.register.specs.Labels.{same};
 
-    // An attempt in which nothing is joined.
-    pub(crate) fn new(rule: &'a R, before: &'a Classes) -> Attempt<'a, R>
+    // An attempt in which nothing is joined, where the classes are as they were.
+    pub(crate) fn new(rule: &'a R, before: &'a Classes, after: &'a mut Classes) -> Attempt<'a, R>
         ensures rule { result.rule ≡ rule.entry }
         ensures before { result.before ≡ before.entry }
-        ensures after { result.after ≡ before.now }
+        ensures after { result.after ≡ after.entry }
     {
         Attempt {
             rule,
             before,
-            after: *before,
+            after,
         }
     }
 
@@ -42,7 +42,7 @@ impl<'a, R: Rule> Attempt<'a, R> {
         requires stands { Stands R.Rule self.old queue.old }
         requires first_there { cell.first < R.Rule.count self.old.rule.now }
         requires second_there { cell.second < R.Rule.count self.old.rule.now }
-        requires apart { same self.old.after.labels cell.first cell.second ≡ false }
+        requires apart { same self.old.after.now.labels cell.first cell.second ≡ false }
         ensures stands { Stands R.Rule self.new queue.new }
         ensures goes { Goes self.old self.new queue.old queue.new }
         ensures noted { noted_cells queue.new ≡ noted_cells queue.old ++ (cell ∷ []) }
@@ -139,12 +139,13 @@ impl<'a, R: Rule> Attempt<'a, R> {
         requires stands { Stands R.Rule self.old queue.old }
         requires p_there { p < R.Rule.count self.old.rule.now }
         requires q_there { q < R.Rule.count self.old.rule.now }
-        requires apart { same self.old.after.labels p q ≡ false }
+        requires apart { same self.old.after.now.labels p q ≡ false }
         requires none_noted { noted_cells queue.old ≡ [] }
         requires none_taken { queue.old.taken ≡ 0 }
         ensures stands { Stands R.Rule self.new queue.new }
         ensures rule { self.new.rule ≡ self.old.rule }
         ensures before { self.new.before ≡ self.old.before }
+        ensures after { self.new.after.ghost_name ≡ self.old.after.ghost_name }
         ensures same_reference { queue.new.cells.ghost_name ≡ queue.old.cells.ghost_name }
         ensures cells { queue.new.cells.now ≡ over (noted_cells queue.new) (further_cells queue.old) }
         ensures searched { searched_pairs (rule_in R.Rule self.old) (same self.old.before.now.labels) p q ≡ progress queue.new result }

@@ -5,11 +5,14 @@ ghost use Rattle.register.specs.Relations.{Agree, HasClasses, Joins, classes, jo
 ghost use Rattle.register.specs.Rings.{Added, StaysInClass, Numbered, Relabelled, Round, Sized, Spliced, class_size};
 
 // Two states are of one class exactly if they have one label. `ring` gives the state after a state in its class, round and round;
-// `sizes` has the size of each class under its label.
+// `sizes` has the size of each class under its label. The gaps keep the tables from lying a multiple of 4,096 bytes apart, where a read of the one waits for a write to the
+// other.
 #[derive(Clone, Copy)]
 pub(crate) struct Classes {
     labels: [u16; 4096],
+    gap: [u16; 32],
     ring: [u16; 4096],
+    second_gap: [u16; 32],
     sizes: [u16; 4096],
     ghost labels_inside: { Inside labels },
     ghost ring_inside: { Inside ring },
@@ -42,7 +45,6 @@ fn relabel(labels: &mut [u16; 4096], ring: &[u16; 4096], start: usize, to: u16)
     let from = labels[start];
     let mut at = start;
     while labels[at] == from {
-        // The ring is read first: the tables lie a multiple of 4096 bytes apart, where a read right after a write is slow.
         let after = ring[at] as usize;
         labels[at] = to;
         at = after;
@@ -99,7 +101,9 @@ impl Classes {
         number(&mut labels);
         Classes {
             labels,
+            gap: [0; 32],
             ring: labels,
+            second_gap: [0; 32],
             sizes: [1; 4096],
         }
     }
@@ -110,7 +114,7 @@ impl Classes {
         ensures { Agree 4096 (same self.new.labels) (λ u v. u == v) }
     {
         number(&mut self.labels);
-        number(&mut self.ring);
+        self.ring = self.labels;
         self.sizes = [1; 4096];
     }
 
@@ -159,7 +163,6 @@ impl Classes {
     }
 
     // The number of classes among the first n states.
-    #[tactic(auto, using(crate::proofs::Seen::represented))]
     pub(crate) fn count(&self, n: usize) -> usize
         requires { n ≤ 4096 }
         ensures counted { result ≡ classes (same self.now.labels) n }

@@ -20,18 +20,24 @@ use explore::pair_cell::PairCell;
 use explore::queue::Queue;
 use explore::trail::write_word;
 
-// What a search over pairs came to: the classes with the noted pairs joined, the number of these pairs, and the cell and the letter that led
-// to a pair of which exactly one state is kept, if there was one.
+// What a search over pairs came to: the number of the noted pairs, and the cell and the letter that led to a pair of which exactly one state is kept, if there was one.
 #[derive(Drop)]
 struct Tried {
-    classes: Classes,
     noted: usize,
     ended: Option<(usize, u8)>,
 }
 
-// Joins p and q and the pairs that follow, in a copy of the classes, until a pair of which exactly one state is kept.
+// Joins p and q and the pairs that follow, until a pair of which exactly one state is kept. `before` are the classes as they were.
 #[tactic(auto, using(crate::proofs::Attempts::stands_first))]
-fn attempt<R: Rule>(rule: &R, before: &Classes, p: usize, q: usize, cells: &mut [PairCell]) -> Tried
+fn attempt<R: Rule>(
+    rule: &R,
+    before: &Classes,
+    classes: &mut Classes,
+    p: usize,
+    q: usize,
+    cells: &mut [PairCell],
+) -> Tried
+    requires unchanged { classes.old ≡ before.now }
     requires p_there { p < R.Rule.count rule.now }
     requires q_there { q < R.Rule.count rule.now }
     requires apart { same before.now.labels p q ≡ false }
@@ -41,13 +47,12 @@ fn attempt<R: Rule>(rule: &R, before: &Classes, p: usize, q: usize, cells: &mut 
     ensures ended { result.ended ≡ (searched_by R.Rule rule.now before.now p q).ended }
     ensures few { result.noted ≤ R.Rule.count rule.now }
     ensures inside { CellsBelow (R.Rule.count rule.now) (searched_by R.Rule rule.now before.now p q).noted }
-    ensures classes { Agree 4096 (same result.classes.labels) (joins (same before.now.labels) (searched_by R.Rule rule.now before.now p q).noted) }
+    ensures classes { Agree 4096 (same classes.new.labels) (joins (same before.now.labels) (searched_by R.Rule rule.now before.now p q).noted) }
 {
-    let mut attempt = Attempt::new(rule, before);
+    let mut attempt = Attempt::new(rule, before, classes);
     let mut queue = Queue::new(cells);
     let ended = attempt.run(&mut queue, p, q);
     Tried {
-        classes: attempt.after,
         noted: queue.noted(),
         ended,
     }
@@ -112,12 +117,13 @@ pub(crate) fn compare<R: Rule>(
             tried: 0,
         };
     }
-    let tried = attempt(rule, classes, p, q, cells);
+    let before = *classes;
+    let tried = attempt(rule, &before, classes, p, q, cells);
     match tried.ended {
-        None => {
-            *classes = tried.classes;
-            Verdict::Same { joins: tried.noted }
+        None => Verdict::Same { joins: tried.noted },
+        Some(ended) => {
+            *classes = before;
+            differ(rule, p, q, &cells[..tried.noted], ended, word)
         }
-        Some(ended) => differ(rule, p, q, &cells[..tried.noted], ended, word),
     }
 }

@@ -1,9 +1,8 @@
 -- What a verdict says that is right, and the settlement that says it.
-use Rattle.std.proofs.Common.{◌≡◌, ℕ, ◌≤◌, cond, ◌==◌, ◌⊎◌, ◌↔◌, List, length, take, Option, Some, inl, inr, refl, ◌∙◌, arith}
-use Rattle.std.specs.Prelude.{IfSome, IsSome, option_map}
+use Rattle.std.proofs.Common.{◌≡◌, ℕ, cond, ◌==◌, ◌⊎◌, ◌↔◌, List, length, take, Option, Some, inl, inr, ap, refl, ◌∙◌, arith}
+use Rattle.std.specs.Prelude.{option_map}
 use Rattle.std.proofs.Math.Path.{subst⁻¹}
 use Rattle.std.proofs.lemmas.Bool.{cond-false, cond-true, eq-eqb, eqb-true, false_from_ne_true}
-use Rattle.std.proofs.lemmas.List.{length-take}
 use Rattle.automaton.specs.declared.side.Side.{Side}
 use Rattle.automaton.specs.declared.side.Side.TheVariants.{First, Second}
 use Rattle.automaton.specs.Automata.{Automaton}
@@ -15,26 +14,27 @@ use Rattle.register.specs.Runs.{IsSame as SaysSame, KeptFrom, Named, handed}
 use Rattle.register.specs.Verdicts.{verdict_value}
 use Rattle.settlement.specs.declared.settlement.Settlement.{Settlement}
 use Rattle.settlement.specs.declared.settlement.Settlement.TheVariants.{Same as SameWords, Differ as OtherWords}
-use Rattle.settlement.specs.Settlements.{IsSame, KeptBy, word_of}
-use Rattle.settlement.specs.Steps.{VerdictRight}
+use Rattle.settlement.specs.Settlements.{IsSame, KeptBy, length_of, word_of}
+use Rattle.settlement.specs.Steps.{Tells}
 use Rattle.settlement.proofs.Parting.{WordsOf, only}
 
--- The word of a verdict stands within the buffer.
-pub within : (m n : Automaton) (v : Verdict) (buffer : List ℕ) → VerdictRight m n v buffer → IfSome (verdict_value v).word (λ w. w.0 ≤ length buffer)
-within m n (Same j) buffer r = tt
-within m n (Differ long keeper tried) buffer r = omega (arith, (r.right.named (take long buffer) refl).0, length-take long buffer)
+-- The word of the settlement is the one that the verdict hands over,
+pub same_word : (v : Verdict) (start : ℕ) (s : Settlement) (buffer : List ℕ) → Tells v start s → word_of s buffer ≡ handed v buffer
+same_word (Same j) start s buffer t = ap (λ (o : Option ℕ). option_map (λ n. take n buffer) o) t.long
+same_word (Differ long keeper tried) start s buffer t = ap (λ (o : Option ℕ). option_map (λ n. take n buffer) o) t.long
 
--- A verdict that names a word's length hands the word over.
-pub has_word : (v : Verdict) (buffer : List ℕ) → IsSome (verdict_value v).word → (w : List ℕ) × (handed v buffer ≡ Some w)
-has_word (Same j) buffer h = cc
-has_word (Differ long keeper tried) buffer h = (take long buffer, refl)
+-- and it has the length that the settlement says.
+pub same_length : (c : Automaton) (p q : ℕ) (v : Verdict) (start : ℕ) (s : Settlement) (buffer : List ℕ) → Tells v start s →
+    ((w : List ℕ) → handed v buffer ≡ Some w → Named c p q v w) → length_of s ≡ option_map length (handed v buffer)
+same_length c p q (Same j) start s buffer t named = t.long
+same_length c p q (Differ long keeper tried) start s buffer t named = t.long ∙ ap (λ n. Some n) (named (take long buffer) refl).0
 
 -- The settlement is "same" exactly if the verdict is.
-pub same_said : (v : Verdict) (s : Settlement) (buffer : List ℕ) → word_of s ≡ handed v buffer → IsSame s ↔ SaysSame v
-same_said (Same i) (SameWords j) buffer e = ((λ _. tt), (λ _. tt))
-same_said (Differ long keeper tried) (OtherWords side word j) buffer e = ((λ x. absurd x), (λ x. absurd x))
-same_said (Same i) (OtherWords side word j) buffer e = cc
-same_said (Differ long keeper tried) (SameWords j) buffer e = cc
+pub same_said : (v : Verdict) (start : ℕ) (s : Settlement) → Tells v start s → IsSame s ↔ SaysSame v
+same_said (Same i) start (SameWords j) t = ((λ _. tt), (λ _. tt))
+same_said (Differ long keeper tried) start (OtherWords side n j) t = ((λ x. absurd x), (λ x. absurd x))
+same_said (Same i) start (OtherWords side n j) t = let e = t.long in cc
+same_said (Differ long keeper tried) start (SameWords j) t = let e = t.long in cc
 
 -- The side that is named has the word, where the verdict tells its two states p and q apart.
 module _ {d e : Diagram} {c : Automaton} {p q : ℕ} (a : WordsOf d c p) (b : WordsOf e c q) (other : q ≡ p → ⊥) where

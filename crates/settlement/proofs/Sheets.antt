@@ -1,14 +1,13 @@
 -- What a right verdict on the starts of the automata on two sheets says of the words that the sheets' diagrams accept.
-use Rattle.std.proofs.Common.{◌≡◌, ℕ, ◌+◌, ◌==◌, ◌↔◌, List, length, take, Ok, Err, Result, Some, ap, inr, refl, sym, subst, ◌∙◌, arith}
-use Rattle.std.specs.Prelude.{IfErr, IfOk, IsSome}
-use Rattle.std.proofs.lemmas.Bool.{cond-true, eq-eqb, le-leb}
+use Rattle.std.proofs.Common.{◌≡◌, ℕ, ◌+◌, ◌==◌, ◌↔◌, List, length, take, Ok, Result, Some, ap, refl, sym, subst, ◌∙◌, arith}
+use Rattle.std.specs.Prelude.{IfOk, option_map}
 use Rattle.std.proofs.lemmas.List.{length-take-le}
 use Rattle.automaton.specs.declared.fault.Fault.{Fault}
 use Rattle.automaton.specs.Automata.{Automaton, Lawful}
 use Rattle.automaton.specs.Diagrams.{Accepts, Diagram}
 use Rattle.automaton.specs.Languages.{Keeps}
 use Rattle.combine.specs.Bounds.{disjoint_union_lawful}
-use Rattle.combine.specs.Combined.{disjoint_union, fit_answer, sum}
+use Rattle.combine.specs.Combined.{disjoint_union}
 use Rattle.combine.specs.Laws.{Beside, FitSum, begun_at}
 use Rattle.combine.proofs.Kept.{unites}
 use Rattle.explore.specs.declared.pair_cell.PairCell.{PairCell}
@@ -20,11 +19,11 @@ use Rattle.register.specs.Runs.{Right, fresh, handed}
 use Rattle.register.specs.Verdicts.{verdict_value}
 use Rattle.register.proofs.Standing.{apart_law, kept_law}
 use Rattle.settlement.specs.declared.settlement.Settlement.{Settlement}
-use Rattle.settlement.specs.Settlements.{Settled, Unsettled, checked, keeper_of, search_of, word_not_copied, word_of}
+use Rattle.settlement.specs.Settlements.{Settled, keeper_of, search_of, word_of}
 use Rattle.settlement.specs.Openings.{OnSheet}
-use Rattle.settlement.specs.Steps.{VerdictRight, Tells}
+use Rattle.settlement.specs.Steps.{StartsCompared, Tells, VerdictRight}
 use Rattle.settlement.proofs.Parting.{WordsOf, alike_none, none_alike, separates_tells, tells_separates}
-use Rattle.settlement.proofs.Settling.{has_word, kept_by, same_said}
+use Rattle.settlement.proofs.Settling.{kept_by, same_length, same_said, same_word}
 use Rattle.sheet.specs.Bounds.{tabled_lawful}
 use Rattle.sheet.specs.Layout.{WellFormed, drawn, tabled}
 use Rattle.sheet.proofs.Drawings.{keeps_drawn}
@@ -83,12 +82,12 @@ module _ (first second : List ℕ) (f : WellFormed first) (g : WellFormed second
   searched : search_of m n ≡ record { noted = take (verdict_value v).joins j.cells; word = handed v buffer }
   searched = r.defined (λ x y. x == y) apart
 
-  pub settled : checked first second ≡ Ok tt → (s : Settlement) → Tells v p buffer s → Settled first second s
-  settled unrefused s t =
-      let said = same_said v s buffer t.word in
-      let is_handed : (w : List ℕ) → word_of s ≡ Some w → handed v buffer ≡ Some w = λ w e. sym t.word ∙ e in
+  pub settled : (s : Settlement) → Tells v p s → Settled first second s buffer
+  settled s t =
+      let said = same_said v p s t in
+      let word : word_of s buffer ≡ handed v buffer = same_word v p s buffer t in
+      let is_handed : (w : List ℕ) → word_of s buffer ≡ Some w → handed v buffer ≡ Some w = λ w e. sym word ∙ e in
       record {
-        unrefused = unrefused;
         first_formed = f;
         second_formed = g;
         fit = fit;
@@ -99,18 +98,14 @@ module _ (first second : List ℕ) (f : WellFormed first) (g : WellFormed second
         shortest = λ w e u x. r.shortest w (is_handed w e) u (tells_separates first_words second_words u x);
         kept = λ side w e x.
             kept_by first_words second_words (λ z. omega (arith, z, l.begins)) v (keeper_of s) side w (r.first w (is_handed w x)).0.over (r.named w (is_handed w x)) t.keeper e;
-        word = t.word ∙ sym (ap (λ (x : Searched PairCell). x.word) searched);
+        word = word ∙ sym (ap (λ (x : Searched PairCell). x.word) searched);
+        long = same_length c p q v p s buffer t r.named ∙ sym (ap (λ (x : Searched PairCell). option_map length x.word) searched);
         joins = t.joins ∙ sym (length-take-le (verdict_value v).joins j.cells r.many) ∙ sym (ap (λ (x : Searched PairCell). length x.noted) searched);
       }
 
-  pub unsettled : checked first second ≡ Ok tt → (e : Fault) → e ≡ word_not_copied → IsSome (verdict_value v).word → Unsettled first second e
-  unsettled unrefused e is h =
-      let o = has_word v buffer h in
-      inr (inr (record { is = is; unrefused = unrefused; apart = (o.0, separates_tells first_words second_words o.0 (r.first o.0 o.1).0) }))
-
 -- Two sheets that were opened, where the fit question said yes of their automata.
-module _ (first second : List ℕ) (x y : Automaton) (a : OnSheet first x) (b : OnSheet second y) (m n : Automaton) (is_x : m ≡ x) (is_y : n ≡ y) (yes : FitSum m n) (v : Verdict) (buffer : List ℕ)
-    (j : VerdictRight m n v buffer) where
+module _ (first second : List ℕ) (x y : Automaton) (a : OnSheet first x) (b : OnSheet second y) (m n : Automaton) (is_x : m ≡ x) (is_y : n ≡ y) (yes : FitSum m n) (word : List ℕ)
+    (r : Result Verdict Fault) (buffer : List ℕ) (compared : StartsCompared m n word r buffer) where
   -- what holds of the two automata holds of those on the sheets
   moved : (P : Automaton → Automaton → Type 0) → P m n → P (tabled first) (tabled second)
   moved P h = subst (λ (z : Automaton). P (tabled first) z) (is_y ∙ b.means) (subst (λ (z : Automaton). P z n) (is_x ∙ a.means) h)
@@ -118,19 +113,10 @@ module _ (first second : List ℕ) (x y : Automaton) (a : OnSheet first x) (b : 
   fit : FitSum (tabled first) (tabled second)
   fit = moved FitSum yes
 
-  judged : VerdictRight (tabled first) (tabled second) v buffer
-  judged = moved (λ (d e : Automaton). VerdictRight d e v buffer) j
+  starts : StartsCompared (tabled first) (tabled second) word r buffer
+  starts = moved (λ d e. StartsCompared d e word r buffer) compared
 
-  fits : fit_answer (tabled first).letters (tabled second).letters (sum (tabled first) (tabled second)) tt ≡ Ok (tt {0})
-  fits = cond-true _ _ _ (eq-eqb _ _ fit.same) ∙ cond-true _ _ _ (le-leb _ _ fit.few)
-
-  unrefused : checked first second ≡ Ok tt
-  unrefused = rw (a.faultless, b.faultless) fits
-
-  pub sheets_settled : (start : ℕ) → start ≡ 0 → (r : Result Settlement Fault) → IfOk r (λ s. Tells v start buffer s) → IfOk r (λ s. Settled first second s)
-  sheets_settled start e (Ok s) t = settled first second a.formed b.formed fit v buffer judged unrefused s (subst (λ (z : ℕ). Tells v z buffer s) e t)
-  sheets_settled start e (Err f) t = tt
-
-  pub sheets_unsettled : (r : Result Settlement Fault) → IfErr r (λ f. (f ≡ word_not_copied) × IsSome (verdict_value v).word) → IfErr r (λ f. Unsettled first second f)
-  sheets_unsettled (Ok s) h = tt
-  sheets_unsettled (Err f) h = unsettled first second a.formed b.formed fit v buffer judged unrefused f h.0 h.1
+  pub sheets_settled : (v : Verdict) → r ≡ Ok v → (start : ℕ) → start ≡ 0 → (s : Settlement) → Tells v start s → Settled first second s buffer
+  sheets_settled v is start e s t =
+      settled first second a.formed b.formed fit v buffer (subst (λ (z : Result Verdict Fault). IfOk z (λ v. VerdictRight (tabled first) (tabled second) v buffer)) is starts.right) s
+      (subst (λ (z : ℕ). Tells v z s) e t)

@@ -1,15 +1,14 @@
 // Settling whether the rules on two table sheets keep the same words.
-ghost use Rattle.std.specs.Prelude.{◌≡◌, ◌+◌, ◌≤◌, IfErr, IfOk, IfSome, IsOkAnd, IsSome, length, vec_items};
+ghost use Rattle.std.specs.Prelude.{◌≡◌, ◌+◌, [], IfErr, IfOk, Ok, length, unwrap_or};
 ghost use Rattle.automaton.specs.Meanings.{meaning};
 ghost use Rattle.combine.specs.Laws.{FitSum};
-ghost use Rattle.register.specs.Verdicts.{verdict_value};
-ghost use Rattle.settlement.specs.Settlements.{Unsettled, Settled, settlement_value, word_not_copied};
-ghost use Rattle.settlement.specs.Steps.{VerdictRight, Tells};
+ghost use Rattle.explore.specs.Written.{if_answered, over};
+ghost use Rattle.settlement.specs.Settlements.{Unsettled, Settled, room_checked, search_of, settlement_value};
+ghost use Rattle.settlement.specs.Steps.{StartsCompared, Tells};
+ghost use Rattle.sheet.specs.Layout.{tabled};
 
 use crate::opening::open_sheet;
 use automaton::fault::Fault;
-use automaton::kind::FaultKind;
-use automaton::layer::Layer;
 use automaton::rule::Rule;
 use automaton::side::Side;
 use automaton::size::MOST_STATES;
@@ -20,25 +19,25 @@ use register::register::Register;
 use register::verdict::Verdict;
 use std::alloc::Global;
 
-// Same: both rules keep the same words, and so many joins were made. Differ: this is the first word that only one of them keeps, the first or the second rule, and
+// Same: both rules keep the same words, and so many joins were made. Differ: the first word that only one of them keeps, the first or the second rule, has so many letters, and
 // so many joins were tried.
-#[derive(Drop)]
+#[derive(Clone, Copy, PartialEq, Eq, Debug)]
 pub enum Settlement {
     Same {
         joins: usize,
     },
     Differ {
         kept_by: Side,
-        word: Vec<u8>,
+        length: usize,
         tried: usize,
     },
 }
 
 // The number of the case: 0 for the same, 1 if they differ.
-impl From<&Settlement> for u8 {
-    ghost from_gives = { λ s n. n ≡ (settlement_value s.now).number };
+impl From<Settlement> for u8 {
+    ghost from_gives = { λ s n. n ≡ (settlement_value s).number };
 
-    fn from(settlement: &Settlement) -> u8 {
+    fn from(settlement: Settlement) -> u8 {
         match settlement {
             Settlement::Same { .. } => 0,
             Settlement::Differ { .. } => 1,
@@ -46,27 +45,34 @@ impl From<&Settlement> for u8 {
     }
 }
 
-// Settles the rules on two sheets: opens the first, then the second, and compares their starts in the disjoint union.
-pub fn settle(heap: Global, first: &[u8], second: &[u8]) -> Result<Settlement, Fault>
-    ensures settled { IfOk result (λ s. Settled first.now second.now s) }
-    ensures refused { IfErr result (λ f. Unsettled first.now second.now f) }
+// Settles the rules on two sheets: opens the first, then the second, and compares their starts in the disjoint union. A word that only one of them keeps is handed over at the
+// beginning of `word`; one of 4,096 bytes is never too short. A refusal leaves it.
+pub fn settle(
+    heap: Global,
+    first: &[u8],
+    second: &[u8],
+    word: &mut [u8],
+) -> Result<Settlement, Fault>
+    ensures accepted { IfOk result (λ s. room_checked first.now second.now (length word.old) ≡ Ok tt) }
+    ensures settled { IfOk result (λ s. Settled first.now second.now s word.new) }
+    ensures refused { IfErr result (λ f. Unsettled first.now second.now (length word.old) f) }
+    ensures word { word.new ≡ if_answered result (over (unwrap_or (search_of (tabled first.now) (tabled second.now)).word []) word.old) word.old }
 {
     let first = open_sheet(heap, first, Side::First)?;
     let second = open_sheet(heap, second, Side::Second)?;
     let union = DisjointUnion::new(&first, &second);
     union.fits()?;
-    let mut word = [0; MOST_STATES];
-    let verdict = compare_starts(union, &mut word)?;
-    settlement_of(heap, verdict, first.start_state(), &word)
+    let verdict = compare_starts(union, word)?;
+    Ok(settlement_of(verdict, first.start_state()))
 }
 
-// Compares the starts of two rules that fit. The word, if one is found, stands at the beginning of the buffer.
+// Compares the starts of two rules that fit. The word, if one is found, stands at the beginning of the buffer, which is refused if it has fewer bytes than there are states.
 fn compare_starts<A: Rule + Drop, B: Rule + Drop>(
     union: DisjointUnion<A, B>,
-    word: &mut [u8; MOST_STATES],
+    word: &mut [u8],
 ) -> Result<Verdict, Fault>
     requires { FitSum (meaning A.Rule union.first.rule) (meaning B.Rule union.second.rule) }
-    ensures { IsOkAnd result (λ v. VerdictRight (meaning A.Rule union.first.rule) (meaning B.Rule union.second.rule) v word.new) }
+    ensures { StartsCompared (meaning A.Rule union.first.rule) (meaning B.Rule union.second.rule) word.old result word.new }
 {
     let mut cells = [PairCell {
         first: 0,
@@ -92,42 +98,24 @@ fn starts<A: Rule, B: Rule>(union: &DisjointUnion<A, B>) -> (usize, usize)
     )
 }
 
-// What a verdict says of two rules, where the first's start has this number and the word stands at the beginning of the buffer.
-fn settlement_of(
-    heap: Global,
-    verdict: Verdict,
-    start: usize,
-    word: &[u8],
-) -> Result<Settlement, Fault>
-    requires { IfSome (verdict_value verdict).word (λ w. w.0 ≤ length word.now) }
-    ensures told { IfOk result (λ s. Tells verdict start word.now s) }
-    ensures refused { IfErr result (λ f. (f ≡ word_not_copied) × IsSome (verdict_value verdict).word) }
+// What a verdict says of two rules, where the first's start has this number.
+fn settlement_of(verdict: Verdict, start: usize) -> Settlement
+    ensures { Tells verdict start result }
 {
     match verdict {
-        Verdict::Same { joins } => Ok(Settlement::Same { joins }),
+        Verdict::Same { joins } => Settlement::Same { joins },
         Verdict::Differ {
             length,
             kept_by,
             tried,
-        } => Ok(Settlement::Differ {
+        } => Settlement::Differ {
             kept_by: if kept_by == start {
                 Side::First
             } else {
                 Side::Second
             },
-            word: copy_word(heap, &word[..length])?,
+            length,
             tried,
-        }),
+        },
     }
-}
-
-// A copy of a word.
-fn copy_word(heap: Global, letters: &[u8]) -> Result<Vec<u8>, Fault>
-    ensures copied { IfOk result (λ copy. vec_items copy ≡ letters.now) }
-    ensures refused { IfErr result (λ f. f ≡ word_not_copied) }
-{
-    Vec::from_slice(heap, letters).map_err(|_| Fault::new(
-        FaultKind::OutOfMemory,
-        Layer::Register,
-    ).on(Side::Pair))
 }

@@ -1,5 +1,6 @@
-// The relation of two sheets, on examples.
+// Settling and relating two sheets, on examples.
 use crate::relation::relate_sheets;
+use crate::settlement::{Settlement, settle};
 use automaton::fault::Fault;
 use automaton::kind::FaultKind;
 use automaton::layer::Layer;
@@ -111,4 +112,35 @@ fn refusals(rt: HostRuntime) {
     let short = Fault::new(FaultKind::BufferTooShort, Layer::Search);
     refuses(&rt, (&EVEN, &EVEN), (3, 3), short.on(Side::First));
     refuses(&rt, (&EVEN, &EVEN), (4, 3), short.on(Side::Second));
+}
+
+// Whether two sheets are settled, or refused, as expected, with a buffer of so many bytes, which holds these bytes afterwards.
+fn settles(
+    rt: &(impl Abort + AllocGlobal),
+    second: &[u8],
+    length: usize,
+    expected: Result<Settlement, Fault>,
+    word: [u8; 6],
+) {
+    let mut buffer = [9; 6];
+    assert!(rt; length <= 6);
+    let answer = settle(rt.alloc(), &EVEN, second, &mut buffer[..length]);
+    assert!(rt; answer == expected);
+    assert!(rt; buffer == word);
+}
+
+#[test]
+fn settlements(rt: HostRuntime) {
+    settles(&rt, &EVEN, 4, Ok(Settlement::Same { joins: 2 }), UNTOUCHED);
+    let apart = Settlement::Differ {
+        kept_by: Side::Second,
+        length: 1,
+        tried: 1,
+    };
+    settles(&rt, &ALL, 3, Ok(apart), A);
+    let short = Fault::new(FaultKind::BufferTooShort, Layer::Register);
+    settles(&rt, &EVEN, 3, Err(short), UNTOUCHED);
+    settles(&rt, &ALL, 2, Err(short), UNTOUCHED);
+    let differ = Fault::new(FaultKind::LettersDiffer, Layer::Combined);
+    settles(&rt, &ALL_OF_A, 0, Err(differ.on(Side::Pair)), UNTOUCHED);
 }

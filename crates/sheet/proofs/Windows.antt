@@ -12,6 +12,10 @@ pub three_or : (b0 b1 b2 : ℕ) → b0 < 256 → b1 < 256 → b2 < 256
     → bit_or (bit_or ((b0 * 65536) % 4294967296) ((b1 * 256) % 4294967296)) b2 ≡ three b0 b1 b2
 three_or b0 b1 b2 h0 h1 h2 = grind (arith, common_steps, or_shifted b0 16 (b1 * 256), or_shifted (b0 * 256 + b1) 8 b2)
 
+-- and of a byte below them
+pub one_more : (n b : ℕ) → n < 16777216 → b < 256 → bit_or ((n * 256) % 4294967296) b / 256 ≡ n
+one_more n b h l = grind (arith, or_shifted n 8 b)
+
 -- a bit below s depends only on the remainder by 2 ^ s
 pub low_bit : (m n k s : ℕ) → k < s → m % 2 ^ s ≡ n % 2 ^ s → m / 2 ^ k % 2 ≡ n / 2 ^ k % 2
 low_bit m n k s h e =
@@ -55,7 +59,10 @@ mask_low n w h = rw (one_shl w 32 (omega arith), and_mask n w)
 pub mask_lt : (n w : ℕ) → w ≤ 16 → bit_and n ((1 * 2 ^ w) % 4294967296 - 1) < 65536
 mask_lt n w h = omega (arith, mask_low n w h, mod-lt n (pow_pos w), pow_mono h)
 
--- what a shift and a mask of the window give
-pub window_read : (bs : List ℕ) (i w n : ℕ) → n ≡ window bs (i / 8) → ((k : ℕ) → get_or bs k 0 < 256) → w ≤ 16
-    → bit_and (n / 2 ^ (24 - i % 8 - w)) ((1 * 2 ^ w) % 4294967296 - 1) ≡ field bs i w
-window_read bs i w n e bytes h = rw (mask_low (n / 2 ^ (24 - i % 8 - w)) w h, window_field bs bytes i w (24 - i % 8 - w) (omega arith), e)
+-- what a shift and a mask of the window give, where another byte stands below it
+pub window_read : (bs : List ℕ) (i w n : ℕ) → n / 2 ^ 8 ≡ window bs (i / 8) → ((k : ℕ) → get_or bs k 0 < 256) → w ≤ 16
+    → bit_and (n / 2 ^ (32 - i % 8 - w)) ((1 * 2 ^ w) % 4294967296 - 1) ≡ field bs i w
+window_read bs i w n e bytes h =
+    let s = 24 - i % 8 - w in
+    let below : 32 - i % 8 - w ≡ 8 + s = omega arith in
+    rw (mask_low (n / 2 ^ (32 - i % 8 - w)) w h, window_field bs bytes i w s (omega arith), below, sym (shr-shr n 8 s), e)

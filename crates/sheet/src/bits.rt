@@ -1,8 +1,8 @@
 // Fields of bits across bytes, the most significant bit first, by shifts and masks (docs/DECISIONS.md, "Forms of
 // code"). A place and a width are no struct of their own: each caller makes both anew and hands them on once. The casts that are
 // left are between `usize` and `u32`, which have no `From`, or cut a number to its lowest bits.
-ghost use Rattle.std.specs.Prelude.{◌≡◌, ℕ, ◌+◌, ◌*◌, ◌%◌, ◌^◌, ◌<◌, ◌≤◌, ◌⊎◌, length, nat_le, slice_index, slice_set};
-ghost use Rattle.sheet.specs.Bits.{bit, field, field_answer, truncated, window, Written};
+ghost use Rattle.std.specs.Prelude.{◌≡◌, ℕ, ◌+◌, ◌*◌, ◌/◌, ◌%◌, ◌^◌, ◌<◌, ◌≤◌, ◌⊎◌, length, nat_le, slice_index, slice_set};
+ghost use Rattle.sheet.specs.Bits.{bit, field, field_answer, three, truncated, window, Written};
 
 use crate::width::Width;
 use automaton::fault::Fault;
@@ -16,18 +16,41 @@ fn byte_at(bytes: &[u8], i: usize) -> u8
     bytes.get(i).copied().unwrap_or(0)
 }
 
-// The three bytes from `first` on as one number.
+// Three bytes as one number, the first one highest.
 #[tactic(auto, using(crate::proofs::Windows::three_or))]
+fn joined(high: u8, middle: u8, low: u8) -> u32
+    ensures value { result ≡ three high middle low }
+    ensures bound { result < 2 ^ 24 }
+{
+    u32::from(high) << 16 | u32::from(middle) << 8 | u32::from(low)
+}
+
+// The three bytes from `first` on as one number.
 fn three_bytes(bytes: &[u8], first: usize) -> u32
     requires { first < 2 ^ 61 }
     ensures value { result ≡ window bytes.now first }
     ensures bound { result < 2 ^ 24 }
     ensures typed { (k : ℕ) → slice_index bytes.now k < 256 }
 {
-    let high = u32::from(byte_at(bytes, first)) << 16;
-    let middle = u32::from(byte_at(bytes, first + 1)) << 8;
-    let low = u32::from(byte_at(bytes, first + 2));
-    high | middle | low
+    joined(
+        byte_at(bytes, first),
+        byte_at(bytes, first + 1),
+        byte_at(bytes, first + 2),
+    )
+}
+
+// The same three bytes, and below them the one behind. Where all four are there, they are read at once.
+#[tactic(auto, using(crate::proofs::Windows::one_more))]
+fn four_bytes(bytes: &[u8], first: usize) -> u32
+    requires { first < 2 ^ 61 }
+    ensures value { result / 2 ^ 8 ≡ window bytes.now first }
+    ensures typed { (k : ℕ) → slice_index bytes.now k < 256 }
+{
+    if first + 3 < bytes.len() {
+        let three = joined(bytes[first], bytes[first + 1], bytes[first + 2]);
+        return three << 8 | u32::from(bytes[first + 3]);
+    }
+    three_bytes(bytes, first) << 8
 }
 
 // Whether the field at the bit `at` ends within the bytes.
@@ -50,8 +73,9 @@ pub(crate) fn read_bits(bytes: &[u8], at: usize, width: Width) -> u16
     ensures value { result ≡ field bytes.now at width.bits }
     ensures bound { result < 2 ^ width.bits }
 {
-    let shift = 24 - (at % 8) as u32 - width.bits;
-    ((three_bytes(bytes, at / 8) >> shift) & ((1 << width.bits) - 1)) as u16
+    let shift = 32 - (at % 8) as u32 - width.bits;
+    let shifted = four_bytes(bytes, at / 8).checked_shr(shift).unwrap_or(0);
+    (shifted & ((1 << width.bits) - 1)) as u16
 }
 
 // The field at the bit `at`, refused where it ends past the last byte.

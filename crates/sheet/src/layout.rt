@@ -17,7 +17,7 @@ pub(crate) fn letter_count(sheet: &[u8]) -> usize
 // The rows of a table sheet: its bytes, and the numbers of states and letters that its header writes down.
 #[derive(Clone, Copy)]
 pub(crate) struct Rows<'a> {
-    bytes: &'a [u8],
+    pub(crate) bytes: &'a [u8],
     pub(crate) size: Size,
     ghost headed: { Headed bytes.now size },
 }

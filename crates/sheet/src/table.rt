@@ -1,7 +1,7 @@
 // A rule that is read off the bits of a table sheet.
 ghost use Rattle.std.specs.Prelude.{refl};
 ghost use Rattle.sheet.specs.Bounds.{tabled_lawful};
-ghost use Rattle.sheet.specs.Layout.{Closed, tabled};
+ghost use Rattle.sheet.specs.Layout.{Closed, Headed, tabled};
 ghost use Rattle.sheet.specs.Opening.{table_form};
 
 use crate::checks::check_table;
@@ -12,11 +12,29 @@ use automaton::fault::Fault;
 use automaton::rule::Rule;
 use automaton::size::Size;
 
-// The bytes of the sheet that was opened last. With none, every field is 0: one state, which is dropped, and one letter.
+// The bytes of the sheet that was opened last, and the size that its header writes down, which is read once. With no sheet, every field is 0: one state, which is
+// dropped, and one letter.
 #[derive(Drop)]
 pub struct Table {
     bytes: Vec<u8>,
+    size: Size,
     ghost closed: { Closed bytes.items },
+    ghost headed: { Headed bytes.items size },
+}
+
+impl Table {
+    ghost use Rattle.std.specs.Prelude.{◌≡◌};
+
+    // The rows of the sheet.
+    fn rows(&self) -> Rows<'_>
+        ensures bytes { result.bytes.now ≡ self.now.bytes.items }
+        ensures size { result.size ≡ self.now.size }
+    {
+        Rows {
+            bytes: &self.bytes,
+            size: self.size,
+        }
+    }
 }
 
 // The tests of a state and of a letter are its own, as those of every kind of rule: each is one `if` and answers its own refusal.
@@ -34,30 +52,30 @@ impl Rule for Table {
     ghost bounds = { λ t. tabled_lawful t.bytes.items t.closed };
 
     fn size(&self) -> Size {
-        Rows::of(&self.bytes).size
+        self.size
     }
 
     fn start_state(&self) -> usize {
         0
     }
 
+    #[inline(always)]
     fn kept_at(&self, state: usize) -> Result<bool, Fault> {
-        let rows = Rows::of(&self.bytes);
-        if state >= rows.size.states {
+        if state >= self.size.states {
             return Err(Fault::no_state());
         }
-        Ok(rows.is_kept(state))
+        Ok(self.rows().is_kept(state))
     }
 
+    #[inline(always)]
     fn next_from(&self, state: usize, letter: usize) -> Result<usize, Fault> {
-        let rows = Rows::of(&self.bytes);
-        if state >= rows.size.states {
+        if state >= self.size.states {
             return Err(Fault::no_state());
         }
-        if letter >= rows.size.letters {
+        if letter >= self.size.letters {
             return Err(Fault::no_letter(0));
         }
-        Ok(rows.next(state, letter))
+        Ok(self.rows().next(state, letter))
     }
 }
 
@@ -68,7 +86,8 @@ impl Held for Table {
 
     #[tactic(auto, using(crate::specs::Bounds::field_nil))]
     fn empty(bytes: Vec<u8>) -> Table {
-        Table { bytes }
+        let size = Rows::of(&bytes).size;
+        Table { bytes, size }
     }
 
     #[tactic(auto, using(crate::proofs::Checked::table_checked))]
@@ -78,6 +97,7 @@ impl Held for Table {
 
     #[tactic(auto, using(crate::proofs::Strays::none_closed))]
     fn hold(&mut self, sheet: Vec<u8>) {
+        self.size = Rows::of(&sheet).size;
         self.bytes = sheet;
     }
 

@@ -17,12 +17,12 @@ module _ (g : Over) (c : goal.After-note g) where
   bound : n ≤ 4096
   bound = (g.R.Rule.bounds c.args.self.now.rule.now).few_states
 
-  joined : Agree 4096 (same c.join.new.self.labels) (join (same c.args.self.now.after.labels) c.args.cell.first c.args.cell.second)
-  joined = subst (λ (x : ℕ). Agree 4096 (same c.join.new.self.labels) (join (same c.args.self.now.after.labels) c.args.cell.first x)) c.from-2.ensures
-      (subst (λ (x : ℕ). Agree 4096 (same c.join.new.self.labels) (join (same c.args.self.now.after.labels) x c.from-2.result)) c.from.ensures c.join.ensures)
+  joined : Agree 4096 (same c.join.new.self.labels) (join (same c.args.self.now.after.now.labels) c.args.cell.first c.args.cell.second)
+  joined = subst (λ (x : ℕ). Agree 4096 (same c.join.new.self.labels) (join (same c.args.self.now.after.now.labels) c.args.cell.first x)) c.from-2.ensures
+      (subst (λ (x : ℕ). Agree 4096 (same c.join.new.self.labels) (join (same c.args.self.now.after.now.labels) x c.from-2.result)) c.from.ensures c.join.ensures)
 
-  fewer : suc (classes (same c.join.new.self.labels) n) ≡ classes (same c.args.self.now.after.labels) n
-  fewer = one_fewer c.args.self.now.after.labels c.join.new.self.labels n c.args.cell.first c.args.cell.second bound c.requires.first_there c.requires.second_there c.requires.apart joined
+  fewer : suc (classes (same c.join.new.self.labels) n) ≡ classes (same c.args.self.now.after.now.labels) n
+  fewer = one_fewer c.args.self.now.after.now.labels c.join.new.self.labels n c.args.cell.first c.args.cell.second bound c.requires.first_there c.requires.second_there c.requires.apart joined
 
   room : has_room c.args.queue.now ≡ true
   room = room_for_one c.args.queue.now (omega (arith, fewer, c.requires.stands.fewer, c.requires.stands.room))
@@ -36,7 +36,7 @@ module _ (g : Over) (c : goal.After-note g) where
 pub returns-clause-stands : goal.returns-clause-stands
 returns-clause-stands g c = record {
   joined = subst (λ (cells : List PairCell). Agree 4096 (same c.join.new.self.labels) (joins (same c.args.self.now.before.now.labels) cells)) (sym (noted g c))
-      (joined_one c.args.self.now.after.labels c.join.new.self.labels (same c.args.self.now.before.now.labels) (noted_cells c.args.queue.now) c.args.cell
+      (joined_one c.args.self.now.after.now.labels c.join.new.self.labels (same c.args.self.now.before.now.labels) (noted_cells c.args.queue.now) c.args.cell
       (omega (arith, bound g c, c.requires.first_there)) (omega (arith, bound g c, c.requires.second_there)) c.requires.stands.joined (joined g c));
   inside = subst (λ (cells : List PairCell). CellsBelow (n g c) cells) (sym (noted g c))
       (one_below (n g c) (noted_cells c.args.queue.now) c.args.cell c.requires.stands.inside c.requires.first_there c.requires.second_there);
