@@ -1,4 +1,4 @@
-"""Calls on the bytes of sheets, after docs/PROGRAMS.md."""
+"""Calls on the bytes of sheets, after docs/PROGRAMS.md and docs/CAPI.md."""
 
 import rules
 import searches

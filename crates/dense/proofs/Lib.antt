@@ -1,0 +1,2 @@
+mod Listing
+mod Words

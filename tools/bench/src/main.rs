@@ -1,0 +1,52 @@
+//! Times the proved code beside code written by hand, and says which goals are met.
+//!
+//! Comparing is timed without what a call does but once, which is opening, decoding and copying: from the time of a call that repeats the comparing often
+//! that of a call that does it once is taken away. Opening, copying and settling as a whole stand apart. In each round every contestant has a batch, and a
+//! ratio is the median of the ratios of the rounds.
+
+mod answer;
+mod apart;
+mod cases;
+mod contest;
+mod goals;
+mod machine;
+mod nests;
+mod product;
+mod proved;
+mod random;
+mod rings;
+mod rounds;
+mod row;
+mod search;
+mod sheet;
+mod table;
+mod text;
+mod timed;
+mod union_find;
+
+use goals::Goal;
+use rounds::Effort;
+
+const FULL: Effort = Effort { rounds: 15, batch: 2e6 };
+const QUICK: Effort = Effort { rounds: 5, batch: 1e6 };
+
+fn main() {
+    let quick = std::env::args().any(|argument| argument == "--quick");
+    let effort = if quick { QUICK } else { FULL };
+    machine::print();
+    let kinds = timed::checked();
+    let nests = nests::checked();
+
+    let mut dense = Goal::new("dense/union-find", 1.0);
+    let mut tables = Goal::new("tables/union-find", 5.0);
+    let mut growth = Goal::new("growth of dense, where states times letters grow by 4", 6.0);
+    let mut over_tables = Goal::new("nest/single over tables", 8.0);
+    let mut over_dense = Goal::new("nest/single over dense", 8.0);
+
+    let timed: Vec<_> = kinds.iter().map(|kind| kind.time(effort)).collect();
+    timed.iter().for_each(|timed| timed.judge(&mut dense, &mut tables, &mut growth));
+    timed::print(&timed);
+    apart::print(effort);
+    nests.print(effort, &mut over_tables, &mut over_dense);
+    goals::print(&[dense, tables, growth, over_tables, over_dense]);
+}
