@@ -1,17 +1,19 @@
 -- What each call from C promises.
 --   text_answer      the answer to a sheet of this form and a text: the first fault of the sheet, and otherwise whether its automaton keeps the text
 --   TextJudged       a text is judged by the rule on a sheet: the answer is that one, but for want of memory, which comes only for a sheet without a fault; yes says that the
---                    automaton that is drawn on the sheet accepts the text's word in the textbook's sense, and no that it does not, where every letter is there
+--                    automaton that is drawn on the sheet accepts the text's word in the textbook's sense, and no that it does not, where every letter is there; and
+--                    with a sheet without a fault a letter is refused exactly where the first one stands that is not there
 --   Kept             the call that judges a text: it answers, refuses and writes what such a judgement says
 --   Settle           what settling two sheets promises
 --   SettleCall       the call that settles: it answers, refuses and writes what such a settlement says
 --   Relate           what relating two sheets promises
 --   RelateCall       the call that relates: it answers, refuses and writes what such a relation says
-use Rattle.std.specs.Prelude.{◌≡◌, ℕ, ◌⊎◌, ◌↔◌, Bool, true, false, List, [], length, None, Ok, Err, Result, IfErr, IfOk, unwrap_or}
+use Rattle.std.specs.Prelude.{◌≡◌, ℕ, ◌⊎◌, ◌↔◌, Bool, true, false, List, [], length, None, Ok, Err, Result, IfErr, IfOk, IsOk, unwrap_or}
 use Rattle.automaton.specs.declared.fault.Fault.{Fault}
+use Rattle.automaton.specs.Answers.{no_letter}
 use Rattle.automaton.specs.Diagrams.{Accepts}
 use Rattle.automaton.specs.Faults.{and_then}
-use Rattle.automaton.specs.Languages.{keeps_answer}
+use Rattle.automaton.specs.Languages.{Unknown, keeps_answer}
 use Rattle.automaton.specs.Words.{Over, of_text}
 use Rattle.capi.specs.declared.answers.RelationNumbers.{RelationNumbers}
 use Rattle.capi.specs.declared.answers.SettlementNumbers.{SettlementNumbers}
@@ -34,10 +36,12 @@ pub record TextJudged (form : Form) (sheet text : List ℕ) (r : Result Bool Fau
   pub answer : (r ≡ text_answer form sheet text) ⊎ ((r ≡ Err out_of_memory) × (form.fault sheet ≡ None))
   pub kept : r ≡ Ok true → form.WellFormed sheet × Accepts (form.drawn sheet) (of_text text)
   pub dropped : r ≡ Ok false → form.WellFormed sheet × Over (form.means sheet).letters (of_text text) × (Accepts (form.drawn sheet) (of_text text) → ⊥)
+  pub unknown : form.fault sheet ≡ None → (i : ℕ) → r ≡ Err (no_letter i) → Unknown (form.means sheet) (of_text text) i
 
 pub record Kept (form : Form) (sheet text : List ℕ) (kept : ℕ) (status : ℕ) (kept_after : ℕ) (refusal : Refusal) : Type 0 where
   pub answer : Result Bool Fault
   pub judged : TextJudged form sheet text answer
+  pub is_answered : (status ≡ 0) ↔ IsOk answer
   pub is_status : status ≡ (refusal_of answer).status
   pub is_refusal : refusal ≡ refusal_of answer
   pub number : kept_after ≡ put kept_number answer kept
@@ -51,6 +55,7 @@ pub record Settle (first second word : List ℕ) (r : Result Settlement Fault) (
 pub record SettleCall (first second word : List ℕ) (numbers : SettlementNumbers) (status : ℕ) (word_after : List ℕ) (numbers_after : SettlementNumbers) (refusal : Refusal) : Type 0 where
   pub answer : Result Settlement Fault
   pub settle : Settle first second word answer word_after
+  pub is_answered : (status ≡ 0) ↔ IsOk answer
   pub is_status : status ≡ (refusal_of answer).status
   pub is_refusal : refusal ≡ refusal_of answer
   pub is_numbers : numbers_after ≡ put settlement_numbers answer numbers
@@ -65,6 +70,7 @@ pub record Relate (first second first_word second_word : List ℕ) (r : Result R
 pub record RelateCall (first second first_word second_word : List ℕ) (numbers : RelationNumbers) (status : ℕ) (first_after second_after : List ℕ) (numbers_after : RelationNumbers) (refusal : Refusal) : Type 0 where
   pub answer : Result Relation Fault
   pub relate : Relate first second first_word second_word answer first_after second_after
+  pub is_answered : (status ≡ 0) ↔ IsOk answer
   pub is_status : status ≡ (refusal_of answer).status
   pub is_refusal : refusal ≡ refusal_of answer
   pub is_numbers : numbers_after ≡ put relation_numbers answer numbers

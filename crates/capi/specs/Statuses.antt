@@ -1,29 +1,16 @@
 -- Refusals as numbers, for C.
---   status_of         the status of each kind of refusal: its number in the table, and 255 for want of memory, which stands outside of it
+--   status_of         the status of a kind of refusal: its number in the table, and 255 for the kind that has no number there, want of memory
 --   refusal_numbers   the numbers of a refusal: the place and the letter that it names, its status, its layer and its side
 --   no_refusal        what stands where a call was answered: zeros
 --   refusal_of        the numbers of an answer's refusal, or that there is none
-use Rattle.std.specs.Prelude.{ℕ, Result, Ok, Err}
+use Rattle.std.specs.Prelude.{ℕ, cond, ◌==◌, Result, Ok, Err}
 use Rattle.automaton.specs.declared.fault.Fault.{Fault}
 use Rattle.automaton.specs.declared.kind.FaultKind.{FaultKind}
-use Rattle.automaton.specs.declared.kind.FaultKind.TheVariants.{OutOfMemory, Truncated, WrongLength, TargetOutOfRange, PaddingSet, LettersDiffer, TooManyStates, NoSuchState, TooFewCells, BufferTooShort, NoSuchLetter, TooManyNfaStates, BadLine}
 use Rattle.automaton.specs.Faults.{layer_number, row_of, side_number}
 use Rattle.capi.specs.declared.refusal.Refusal.{Refusal}
 
 abbrev pub status_of : FaultKind → ℕ
-status_of OutOfMemory = 255
-status_of Truncated = 1
-status_of WrongLength = 2
-status_of (TargetOutOfRange p a) = 3
-status_of PaddingSet = 4
-status_of LettersDiffer = 5
-status_of TooManyStates = 6
-status_of NoSuchState = 7
-status_of TooFewCells = 8
-status_of BufferTooShort = 9
-status_of (NoSuchLetter i) = 10
-status_of TooManyNfaStates = 11
-status_of (BadLine i) = 12
+status_of kind = cond ((row_of kind).number == 0) 255 (row_of kind).number
 
 abbrev pub refusal_numbers : Fault → Refusal
 refusal_numbers f = record { place = (row_of f.kind).place; letter = (row_of f.kind).letter; status = status_of f.kind; layer = layer_number f.layer; side = side_number f.side }
