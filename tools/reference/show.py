@@ -1,6 +1,6 @@
 """How answers are written, after docs/CROSSCHECK.md."""
 
-from rules import Fault
+from rules import MOST_STATES, Fault
 
 LONGEST_ROW = 16
 
@@ -50,7 +50,8 @@ def rule(of):
     states, letters = range(of.count + 1), range(of.letters + 1)
     kept = [number(lambda: int(of.kept_at(state))) for state in states]
     following = [number(lambda: of.next_from(state, letter)) for state in states for letter in letters]
-    return f"rule {of.count} {of.letters} {of.start} {row(kept)} {row(following)}"
+    raised = [MOST_STATES - of.count + to for row in of.next for to in row]
+    return f"rule {of.count} {of.letters} {of.start} {row(kept)} {row(following)} {row(raised)}"
 
 
 def number(ask):

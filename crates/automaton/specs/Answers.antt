@@ -3,7 +3,8 @@
 --   size_answer           the number of states and of letters
 --   kept_answer           whether a state is kept
 --   next_answer           the next state; the state is checked before the letter
-use Rattle.std.specs.Prelude.{ℕ, Bool, cond, Ok, Err, Result, nat_lt}
+--   HoldsRow              the first k places of a row hold the next states of a state, letter by letter, each raised by r
+use Rattle.std.specs.Prelude.{◌≡◌, ℕ, ◌+◌, ◌<◌, Bool, cond, List, Ok, Err, Result, nat_lt, slice_index}
 use Rattle.automaton.specs.declared.fault.Fault.{Fault}
 use Rattle.automaton.specs.declared.kind.FaultKind.TheVariants.{NoSuchState, NoSuchLetter}
 use Rattle.automaton.specs.declared.layer.Layer.TheVariants.{Rule}
@@ -24,3 +25,6 @@ kept_answer n kept p = cond (nat_lt p n) (Ok (kept p)) (Err no_state)
 
 abbrev pub next_answer : ℕ → ℕ → (ℕ → ℕ → ℕ) → ℕ → ℕ → Result ℕ Fault
 next_answer n k next p a = cond (nat_lt p n) (cond (nat_lt a k) (Ok (next p a)) (Err (no_letter 0))) (Err no_state)
+
+abbrev pub HoldsRow : ℕ → (ℕ → ℕ → ℕ) → ℕ → ℕ → List ℕ → Type 0
+HoldsRow k next p r row = (a : ℕ) → a < k → slice_index row a ≡ r + next p a

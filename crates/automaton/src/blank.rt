@@ -1,14 +1,12 @@
 // The rule that keeps nothing: one state, which is dropped and leads to itself, and one letter.
 ghost use Rattle.automaton.specs.Automata.{blank, blank_lawful};
 
-use crate::fault::Fault;
 use crate::rule::Rule;
 use crate::size::Size;
 
 #[derive(Clone, Copy, PartialEq, Eq, Debug)]
 pub struct Blank;
 
-// Each kind of rule refuses a state and a letter by these two tests of its own: each is one `if` and answers its own refusal.
 impl Rule for Blank {
     ghost count = { λ _. blank.count };
 
@@ -33,20 +31,11 @@ impl Rule for Blank {
         0
     }
 
-    fn kept_at(&self, state: usize) -> Result<bool, Fault> {
-        if state >= 1 {
-            return Err(Fault::no_state());
-        }
-        Ok(false)
+    fn is_kept(&self, _state: usize) -> bool {
+        false
     }
 
-    fn next_from(&self, state: usize, letter: usize) -> Result<usize, Fault> {
-        if state >= 1 {
-            return Err(Fault::no_state());
-        }
-        if letter >= 1 {
-            return Err(Fault::no_letter(0));
-        }
-        Ok(0)
+    fn step(&self, state: usize, _letter: usize) -> usize {
+        state
     }
 }

@@ -1,9 +1,8 @@
 // A reference to a rule is that rule.
-use crate::fault::Fault;
 use crate::rule::Rule;
 use crate::size::Size;
 
-// The questions of lent and of combined rules are inlined: so a refusal, which is several words long, is written out only where one is given.
+// The questions of lent and of combined rules are inlined, so that a nest of them is one question.
 impl<'a, R: Rule> Rule for &'a R {
     ghost count = { λ r. R.Rule.count r.now };
 
@@ -28,12 +27,17 @@ impl<'a, R: Rule> Rule for &'a R {
     }
 
     #[inline(always)]
-    fn kept_at(&self, state: usize) -> Result<bool, Fault> {
-        (**self).kept_at(state)
+    fn is_kept(&self, state: usize) -> bool {
+        (**self).is_kept(state)
     }
 
     #[inline(always)]
-    fn next_from(&self, state: usize, letter: usize) -> Result<usize, Fault> {
-        (**self).next_from(state, letter)
+    fn step(&self, state: usize, letter: usize) -> usize {
+        (**self).step(state, letter)
+    }
+
+    #[inline(always)]
+    fn row<'s>(&'s self, state: usize, raise: u16, spare: &'s mut [u16; 16]) -> &'s [u16; 16] {
+        (**self).row(state, raise, spare)
     }
 }

@@ -6,6 +6,7 @@ pub mod fault;
 pub mod kind;
 pub mod layer;
 pub mod lent;
+pub mod rows;
 pub mod rule;
 pub mod side;
 pub mod size;

@@ -39,6 +39,10 @@ fn blank_answers(rt: HostRuntime) {
         }
     );
     assert_eq!(rt; Blank.start_state(), 0);
+    assert_eq!(rt; Blank.is_kept(0), false);
+    assert_eq!(rt; Blank.step(0, 0), 0);
+    let mut spare = [7; 16];
+    assert_eq!(rt; (&Blank).row(0, 5, &mut spare)[0], 5);
     assert_eq!(rt; Blank.kept_at(0), Ok(false));
     assert_eq!(rt; Blank.kept_at(1), Err(Fault::no_state()));
     assert_eq!(rt; Blank.next_from(0, 0), Ok(0));

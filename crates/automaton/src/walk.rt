@@ -29,16 +29,18 @@ pub fn keeps<R: Rule>(rule: &R, word: Word<'_>) -> Result<bool, Fault>
 fn follow<R: Rule>(rule: &R, from: usize, word: Word<'_>) -> Result<usize, Fault>
     ensures { result ≡ walk_answer (meaning R.Rule rule.now) from (spelled word.entry) }
 {
-    if from >= rule.size().states {
+    let size = rule.size();
+    if from >= size.states {
         return Err(Fault::no_state());
     }
     let mut state = from;
     // A `for` over the bytes with their index (docs/DECISIONS.md, "Forms of code").
     for (i, byte) in word.bytes().iter().enumerate() {
-        match rule.next_from(state, word.letter(*byte)) {
-            Ok(to) => state = to,
-            Err(_) => return Err(Fault::no_letter(i)),
+        let letter = word.letter(*byte);
+        if letter >= size.letters {
+            return Err(Fault::no_letter(i));
         }
+        state = rule.step(state, letter);
     }
     Ok(state)
 }

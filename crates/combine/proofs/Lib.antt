@@ -1,1 +1,3 @@
+pub mod Inverses
 pub mod Kept
+pub mod Numbers

@@ -3,7 +3,6 @@ ghost use Rattle.automaton.specs.Meanings.{meaning};
 ghost use Rattle.combine.specs.Bounds.{complement_lawful};
 ghost use Rattle.combine.specs.Combined.{complement};
 
-use automaton::fault::Fault;
 use automaton::rule::Rule;
 use automaton::size::Size;
 
@@ -48,12 +47,17 @@ impl<R: Rule> Rule for Complement<R> {
     }
 
     #[inline(always)]
-    fn kept_at(&self, state: usize) -> Result<bool, Fault> {
-        Ok(!self.rule.kept_at(state)?)
+    fn is_kept(&self, state: usize) -> bool {
+        !self.rule.is_kept(state)
     }
 
     #[inline(always)]
-    fn next_from(&self, state: usize, letter: usize) -> Result<usize, Fault> {
-        self.rule.next_from(state, letter)
+    fn step(&self, state: usize, letter: usize) -> usize {
+        self.rule.step(state, letter)
+    }
+
+    #[inline(always)]
+    fn row<'s>(&'s self, state: usize, raise: u16, spare: &'s mut [u16; 16]) -> &'s [u16; 16] {
+        self.rule.row(state, raise, spare)
     }
 }

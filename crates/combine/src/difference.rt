@@ -7,7 +7,6 @@ use crate::complement::Complement;
 use crate::fits::Fits;
 use crate::intersection::Intersection;
 use crate::sizes::Sizes;
-use automaton::fault::Fault;
 use automaton::rule::Rule;
 use automaton::size::Size;
 
@@ -72,12 +71,17 @@ impl<A: Rule, B: Rule> Rule for Difference<A, B> {
     }
 
     #[inline(always)]
-    fn kept_at(&self, state: usize) -> Result<bool, Fault> {
-        self.pair.kept_at(state)
+    fn is_kept(&self, state: usize) -> bool {
+        self.pair.is_kept(state)
     }
 
     #[inline(always)]
-    fn next_from(&self, state: usize, letter: usize) -> Result<usize, Fault> {
-        self.pair.next_from(state, letter)
+    fn step(&self, state: usize, letter: usize) -> usize {
+        self.pair.step(state, letter)
+    }
+
+    #[inline(always)]
+    fn row<'s>(&'s self, state: usize, raise: u16, spare: &'s mut [u16; 16]) -> &'s [u16; 16] {
+        self.pair.row(state, raise, spare)
     }
 }

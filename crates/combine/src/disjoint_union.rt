@@ -8,7 +8,6 @@ use crate::fits::Fits;
 use crate::part::Part;
 use crate::sizes::Sizes;
 use automaton::blank::Blank;
-use automaton::fault::Fault;
 use automaton::rule::Rule;
 use automaton::size::Size;
 
@@ -74,34 +73,45 @@ impl<A: Rule, B: Rule> Rule for DisjointUnion<A, B> {
     }
 
     fn start_state(&self) -> usize {
-        if self.fits().is_err() {
+        if !self.sizes().are_fit() {
             return Blank.start_state();
         }
         self.first.rule.start_state()
     }
 
     #[inline(always)]
-    fn kept_at(&self, state: usize) -> Result<bool, Fault> {
-        let Ok(sizes) = self.sizes().fitting() else {
-            return Blank.kept_at(state);
-        };
-        let n = sizes.first.states;
-        if state < n {
-            return self.first.rule.kept_at(state);
+    fn is_kept(&self, state: usize) -> bool {
+        if !self.sizes().are_fit() {
+            return Blank.is_kept(state);
         }
-        self.second.rule.kept_at(state - n)
+        let n = self.first.size.states;
+        if state < n {
+            return self.first.rule.is_kept(state);
+        }
+        self.second.rule.is_kept(state - n)
     }
 
     #[inline(always)]
-    fn next_from(&self, state: usize, letter: usize) -> Result<usize, Fault> {
-        let Ok(sizes) = self.sizes().fitting() else {
-            return Blank.next_from(state, letter);
-        };
-        let n = sizes.first.states;
-        if state < n {
-            return self.first.rule.next_from(state, letter);
+    fn step(&self, state: usize, letter: usize) -> usize {
+        if !self.sizes().are_fit() {
+            return Blank.step(state, letter);
         }
-        let to = self.second.rule.next_from(state - n, letter)?;
-        Ok(n + to)
+        let n = self.first.size.states;
+        if state < n {
+            return self.first.rule.step(state, letter);
+        }
+        n + self.second.rule.step(state - n, letter)
+    }
+
+    #[inline(always)]
+    fn row<'s>(&'s self, state: usize, raise: u16, spare: &'s mut [u16; 16]) -> &'s [u16; 16] {
+        if !self.sizes().are_fit() {
+            return Blank.row(state, raise, spare);
+        }
+        let n = self.first.size.states;
+        if state < n {
+            return self.first.rule.row(state, raise, spare);
+        }
+        self.second.rule.row(state - n, raise + n as u16, spare)
     }
 }

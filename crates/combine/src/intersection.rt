@@ -6,9 +6,8 @@ ghost use Rattle.combine.specs.Combined.{intersection, pairs};
 
 use crate::fits::Fits;
 use crate::part::Part;
-use crate::sizes::Sizes;
+use crate::sizes::{Sizes, number_row};
 use automaton::blank::Blank;
-use automaton::fault::Fault;
 use automaton::rule::Rule;
 use automaton::size::Size;
 
@@ -74,9 +73,10 @@ impl<A: Rule, B: Rule> Rule for Intersection<A, B> {
     }
 
     fn start_state(&self) -> usize {
-        let Ok(sizes) = self.sizes().fitting() else {
+        let sizes = self.sizes();
+        if !sizes.are_fit() {
             return Blank.start_state();
-        };
+        }
         sizes.number(
             self.first.rule.start_state(),
             self.second.rule.start_state(),
@@ -84,24 +84,42 @@ impl<A: Rule, B: Rule> Rule for Intersection<A, B> {
     }
 
     #[inline(always)]
-    fn kept_at(&self, state: usize) -> Result<bool, Fault> {
-        let Ok(sizes) = self.sizes().fitting() else {
-            return Blank.kept_at(state);
-        };
-        let (p, q) = sizes.apart(state)?;
-        let first = self.first.rule.kept_at(p)?;
-        let second = self.second.rule.kept_at(q)?;
-        Ok(first && second)
+    fn is_kept(&self, state: usize) -> bool {
+        let sizes = self.sizes();
+        if !sizes.are_fit() {
+            return Blank.is_kept(state);
+        }
+        let (p, q) = sizes.apart(state, self.second.divisor);
+        self.first.rule.is_kept(p) && self.second.rule.is_kept(q)
     }
 
     #[inline(always)]
-    fn next_from(&self, state: usize, letter: usize) -> Result<usize, Fault> {
-        let Ok(sizes) = self.sizes().fitting() else {
-            return Blank.next_from(state, letter);
-        };
-        let (p, q) = sizes.apart(state)?;
-        let first = self.first.rule.next_from(p, letter)?;
-        let second = self.second.rule.next_from(q, letter)?;
-        Ok(sizes.number(first, second))
+    fn step(&self, state: usize, letter: usize) -> usize {
+        let sizes = self.sizes();
+        if !sizes.are_fit() {
+            return Blank.step(state, letter);
+        }
+        let (p, q) = sizes.apart(state, self.second.divisor);
+        sizes.number(
+            self.first.rule.step(p, letter),
+            self.second.rule.step(q, letter),
+        )
+    }
+
+    // A pair is taken apart once for all letters, and each of the two rules is asked for one row.
+    // The second's is raised, and so are the numbers of the pairs.
+    #[inline(always)]
+    fn row<'s>(&'s self, state: usize, raise: u16, spare: &'s mut [u16; 16]) -> &'s [u16; 16] {
+        let sizes = self.sizes();
+        if !sizes.are_fit() {
+            return Blank.row(state, raise, spare);
+        }
+        let (p, q) = sizes.apart(state, self.second.divisor);
+        let mut first_spare = [0u16; 16];
+        let mut second_spare = [0u16; 16];
+        let first = self.first.rule.row(p, 0, &mut first_spare);
+        let second = self.second.rule.row(q, raise, &mut second_spare);
+        number_row(first, second, self.second.size.states as u16, spare);
+        spare
     }
 }

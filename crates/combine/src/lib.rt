@@ -4,6 +4,7 @@
 pub mod complement;
 pub mod difference;
 pub mod disjoint_union;
+mod divisor;
 pub mod fits;
 pub mod intersection;
 pub mod part;

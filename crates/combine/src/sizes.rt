@@ -1,9 +1,11 @@
 // The sizes of two rules and of their combination, and whether the rules fit.
-ghost use Rattle.std.specs.Prelude.{◌≡◌, ◌+◌, ◌*◌, ◌/◌, ◌%◌, ◌<◌, ◌≤◌, IfOk, cond, nat_lt};
-ghost use Rattle.automaton.specs.Answers.{no_state, size_answer};
+ghost use Rattle.std.specs.Prelude.{◌≡◌, ◌+◌, ◌*◌, ◌/◌, ◌%◌, ◌<◌, ◌≤◌, cond};
+ghost use Rattle.automaton.specs.Answers.{size_answer};
 ghost use Rattle.automaton.specs.Automata.{blank};
 ghost use Rattle.combine.specs.Combined.{fit, fit_answer, misfit};
+ghost use Rattle.combine.specs.Rows.{NumbersPairs};
 
+use crate::divisor::Divisor;
 use automaton::blank::Blank;
 use automaton::fault::Fault;
 use automaton::kind::FaultKind;
@@ -36,19 +38,18 @@ impl Sizes {
         Ok(())
     }
 
-    // The sizes, if the rules fit.
-    pub(crate) fn fitting(self) -> Result<Sizes, Fault>
-        ensures { result ≡ fit_answer self.first.letters self.second.letters self.states self }
+    // Whether the rules fit, where nobody asks why not.
+    pub(crate) fn are_fit(self) -> bool
+        ensures { result ≡ fit self.first.letters self.second.letters self.states }
     {
-        self.fit()?;
-        Ok(self)
+        self.fit().is_ok()
     }
 
     // The size of the combination; that of the blank rule where the rules do not fit.
     pub(crate) fn combined(self) -> Size
         ensures { result ≡ cond (fit self.first.letters self.second.letters self.states) (size_answer self.states self.first.letters) (size_answer blank.count blank.letters) }
     {
-        if self.fit().is_err() {
+        if !self.are_fit() {
             return Blank.size();
         }
         Size {
@@ -57,16 +58,15 @@ impl Sizes {
         }
     }
 
-    // The two states whose pair has a number. A pair that is not there is refused.
-    pub(crate) fn apart(self, state: usize) -> Result<(usize, usize), Fault>
-        ensures value { result ≡ cond (nat_lt state (self.first.states * self.second.states)) (Ok (state / self.second.states, state % self.second.states)) (Err no_state) }
-        ensures there { IfOk result (λ pair. (pair.0 < self.first.states) × (pair.1 < self.second.states)) }
+    // The two states whose pair has a number. The divisor is the second rule's.
+    pub(crate) fn apart(self, state: usize, divisor: Divisor) -> (usize, usize)
+        requires there { state < self.first.states * self.second.states }
+        requires divides { divisor.states ≡ self.second.states }
+        ensures value { result ≡ (state / self.second.states, state % self.second.states) }
+        ensures first { result.0 < self.first.states }
+        ensures second { result.1 < self.second.states }
     {
-        if state >= self.first.states * self.second.states {
-            return Err(Fault::no_state());
-        }
-        let (state, row) = (state as u32, self.second.states as u32);
-        Ok(((state / row) as usize, (state % row) as usize))
+        divisor.divide(state)
     }
 
     // The number of a pair.
@@ -76,6 +76,18 @@ impl Sizes {
         ensures { result ≡ first * self.second.states + second }
     {
         first * self.second.states + second
+    }
+}
+
+// Writes the numbers of the pairs of two rows, place by place. The places behind the letters, of
+// which nothing is known, are numbered too: sixteen sums that may wrap are a few vector operations.
+pub(crate) fn number_row(first: &[u16; 16], second: &[u16; 16], states: u16, row: &mut [u16; 16])
+    ensures { NumbersPairs 16 states first.now second.now row.new }
+{
+    for place in 0..16 {
+        row[place] = first[place]
+            .wrapping_mul(states)
+            .wrapping_add(second[place]);
     }
 }
 

@@ -60,25 +60,16 @@ impl Rule for Counter {
         0
     }
 
-    fn kept_at(&self, state: usize) -> Result<bool, Fault> {
-        if state >= self.states {
-            return Err(Fault::no_state());
-        }
-        Ok(state == 0)
+    fn is_kept(&self, state: usize) -> bool {
+        state == 0
     }
 
-    fn next_from(&self, state: usize, letter: usize) -> Result<usize, Fault> {
-        if state >= self.states {
-            return Err(Fault::no_state());
-        }
-        if letter >= self.letters {
-            return Err(Fault::no_letter(0));
-        }
-        Ok(if letter == 0 {
+    fn step(&self, state: usize, letter: usize) -> usize {
+        if letter == 0 {
             (state + 1) % self.states
         } else {
             state
-        })
+        }
     }
 }
 
@@ -120,12 +111,16 @@ impl<R: Rule> Rule for Asked<'_, R> {
         self.ask().start_state()
     }
 
-    fn kept_at(&self, state: usize) -> Result<bool, Fault> {
-        self.ask().kept_at(state)
+    fn is_kept(&self, state: usize) -> bool {
+        self.ask().is_kept(state)
     }
 
-    fn next_from(&self, state: usize, letter: usize) -> Result<usize, Fault> {
-        self.ask().next_from(state, letter)
+    fn step(&self, state: usize, letter: usize) -> usize {
+        self.ask().step(state, letter)
+    }
+
+    fn row<'s>(&'s self, state: usize, raise: u16, spare: &'s mut [u16; 16]) -> &'s [u16; 16] {
+        self.ask().row(state, raise, spare)
     }
 }
 
@@ -340,13 +335,42 @@ fn misfits(rt: HostRuntime) {
     assert_eq!(rt; keeps(&outer, Word::Text(b"a")), Ok(false));
 }
 
-// How many questions the four questions to a rule become, by a count.
+// A raised row of a rule, where there is such; else a row of zeros.
+fn row_of<R: Rule>(rule: &R, state: usize, raise: u16) -> [u16; 16] {
+    let states = rule.size().states;
+    let mut spare = [0u16; 16];
+    if state < states && usize::from(raise) + states <= 4096 {
+        return *rule.row(state, raise, &mut spare);
+    }
+    spare
+}
+
+// The next states under the two letters, raised.
+#[test]
+fn rows(rt: HostRuntime) {
+    let odd = row_of(&Complement::new(EVEN), 1, 7);
+    assert_eq!(rt; (odd[0], odd[1]), (7, 8));
+    let sixth = row_of(&Intersection::new(EVEN, THIRD), 5, 4090);
+    assert_eq!(rt; (sixth[0], sixth[1]), (4090, 4095));
+    let left = row_of(&Difference::new(EVEN, THIRD), 2, 0);
+    assert_eq!(rt; (left[0], left[1]), (3, 2));
+    let both = DisjointUnion::new(EVEN, THIRD);
+    let first = row_of(&both, 1, 100);
+    assert_eq!(rt; (first[0], first[1]), (100, 101));
+    let second = row_of(&both, 4, 100);
+    assert_eq!(rt; (second[0], second[1]), (102, 104));
+    let misfit = row_of(&Intersection::new(EVEN, NARROW), 0, 9);
+    assert_eq!(rt; misfit[0], 9);
+}
+
+// How many questions the five questions to a rule become, by a count.
 fn questions<R: Rule>(rule: &R, state: usize, count: &Cell<usize>) -> usize {
     count.set(0);
     let _ = rule.size();
     let _ = rule.start_state();
     let _ = rule.kept_at(state);
     let _ = rule.next_from(state, 0);
+    let _ = row_of(rule, state, 0);
     count.get()
 }
 
@@ -363,9 +387,9 @@ fn questions_of_nests(rt: HostRuntime) {
     let three = Difference::new(even, two);
     let four = Intersection::new(Complement::new(three), even);
     assert_eq!(rt; count.get(), 4);
-    assert_eq!(rt; questions(&four, 15, &count), 12);
+    assert_eq!(rt; questions(&four, 15, &count), 14);
     let five = DisjointUnion::new(even, four);
-    assert_eq!(rt; count.get(), 13);
-    assert_eq!(rt; questions(&five, 1, &count), 3);
-    assert_eq!(rt; questions(&five, 17, &count), 9);
+    assert_eq!(rt; count.get(), 15);
+    assert_eq!(rt; questions(&five, 1, &count), 4);
+    assert_eq!(rt; questions(&five, 17, &count), 11);
 }

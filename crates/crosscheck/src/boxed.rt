@@ -1,5 +1,4 @@
 // A rule in a box is that rule. So a rule of many parts is kept small where it is lent.
-use automaton::fault::Fault;
 use automaton::rule::Rule;
 use automaton::size::Size;
 
@@ -29,11 +28,15 @@ impl<R: Rule> Rule for Boxed<R> {
         (*self.rule).start_state()
     }
 
-    fn kept_at(&self, state: usize) -> Result<bool, Fault> {
-        (*self.rule).kept_at(state)
+    fn is_kept(&self, state: usize) -> bool {
+        (*self.rule).is_kept(state)
     }
 
-    fn next_from(&self, state: usize, letter: usize) -> Result<usize, Fault> {
-        (*self.rule).next_from(state, letter)
+    fn step(&self, state: usize, letter: usize) -> usize {
+        (*self.rule).step(state, letter)
+    }
+
+    fn row<'s>(&'s self, state: usize, raise: u16, spare: &'s mut [u16; 16]) -> &'s [u16; 16] {
+        (*self.rule).row(state, raise, spare)
     }
 }

@@ -2,7 +2,6 @@
 ghost use Rattle.crosscheck.specs.Leaves.{leaf_bounds, leaf_means};
 
 use crate::leaf::Leaf;
-use automaton::fault::Fault;
 use automaton::rule::Rule;
 use automaton::size::Size;
 
@@ -33,17 +32,24 @@ impl Rule for Leaf {
         }
     }
 
-    fn kept_at(&self, state: usize) -> Result<bool, Fault> {
+    fn is_kept(&self, state: usize) -> bool {
         match self {
-            Leaf::Table(rule) => rule.kept_at(state),
-            Leaf::Nfa(rule) => rule.kept_at(state),
+            Leaf::Table(rule) => rule.is_kept(state),
+            Leaf::Nfa(rule) => rule.is_kept(state),
         }
     }
 
-    fn next_from(&self, state: usize, letter: usize) -> Result<usize, Fault> {
+    fn step(&self, state: usize, letter: usize) -> usize {
         match self {
-            Leaf::Table(rule) => rule.next_from(state, letter),
-            Leaf::Nfa(rule) => rule.next_from(state, letter),
+            Leaf::Table(rule) => rule.step(state, letter),
+            Leaf::Nfa(rule) => rule.step(state, letter),
+        }
+    }
+
+    fn row<'s>(&'s self, state: usize, raise: u16, spare: &'s mut [u16; 16]) -> &'s [u16; 16] {
+        match self {
+            Leaf::Table(rule) => rule.row(state, raise, spare),
+            Leaf::Nfa(rule) => rule.row(state, raise, spare),
         }
     }
 }

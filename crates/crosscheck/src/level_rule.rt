@@ -2,7 +2,6 @@
 ghost use Rattle.crosscheck.specs.Levels.{level_bounds, level_means};
 
 use crate::level::Level;
-use automaton::fault::Fault;
 use automaton::rule::Rule;
 use automaton::size::Size;
 use combine::complement::Complement;
@@ -40,23 +39,33 @@ impl<R: Rule> Rule for Level<R> {
         }
     }
 
-    fn kept_at(&self, state: usize) -> Result<bool, Fault> {
+    fn is_kept(&self, state: usize) -> bool {
         match self {
-            Level::Only(rule) => rule.kept_at(state),
-            Level::Complemented(rule) => rule.kept_at(state),
-            Level::Intersected(rule) => rule.kept_at(state),
-            Level::United(rule) => rule.kept_at(state),
-            Level::Subtracted(rule) => rule.kept_at(state),
+            Level::Only(rule) => rule.is_kept(state),
+            Level::Complemented(rule) => rule.is_kept(state),
+            Level::Intersected(rule) => rule.is_kept(state),
+            Level::United(rule) => rule.is_kept(state),
+            Level::Subtracted(rule) => rule.is_kept(state),
         }
     }
 
-    fn next_from(&self, state: usize, letter: usize) -> Result<usize, Fault> {
+    fn step(&self, state: usize, letter: usize) -> usize {
         match self {
-            Level::Only(rule) => rule.next_from(state, letter),
-            Level::Complemented(rule) => rule.next_from(state, letter),
-            Level::Intersected(rule) => rule.next_from(state, letter),
-            Level::United(rule) => rule.next_from(state, letter),
-            Level::Subtracted(rule) => rule.next_from(state, letter),
+            Level::Only(rule) => rule.step(state, letter),
+            Level::Complemented(rule) => rule.step(state, letter),
+            Level::Intersected(rule) => rule.step(state, letter),
+            Level::United(rule) => rule.step(state, letter),
+            Level::Subtracted(rule) => rule.step(state, letter),
+        }
+    }
+
+    fn row<'s>(&'s self, state: usize, raise: u16, spare: &'s mut [u16; 16]) -> &'s [u16; 16] {
+        match self {
+            Level::Only(rule) => rule.row(state, raise, spare),
+            Level::Complemented(rule) => rule.row(state, raise, spare),
+            Level::Intersected(rule) => rule.row(state, raise, spare),
+            Level::United(rule) => rule.row(state, raise, spare),
+            Level::Subtracted(rule) => rule.row(state, raise, spare),
         }
     }
 }

@@ -7,9 +7,9 @@ use crate::words::Words;
 use anyhow::Result;
 use automaton::fault::Fault;
 use automaton::rule::Rule;
+use automaton::size::MOST_STATES;
 use automaton::walk::{keeps, walk};
 use automaton::word::Word;
-use explore::ask::is_kept;
 use search::first_kept::first_kept;
 use std::alloc::{AllocError, Global};
 
@@ -21,21 +21,41 @@ fn number(answer: Result<usize, Fault>) -> usize {
     }
 }
 
-// The line of a rule: its size, its start, and what it answers of each state and letter, and of the first that are not there.
+// The line of a rule: its size, its start, what it answers of each state and letter, and of the first that are not there, and the rows of its states.
 pub fn show_rule<R: Rule>(out: &mut String, rule: &R) -> Result<(), AllocError> {
+    let heap: Global = *out.allocator();
     let size = rule.size();
-    let mut kept = Row::new(*out.allocator());
-    let mut next = Row::new(*out.allocator());
+    let mut kept = Row::new(heap);
+    let mut next = Row::new(heap);
     for state in 0..=size.states {
         kept.add(number(rule.kept_at(state).map(usize::from)))?;
         for letter in 0..=size.letters {
             next.add(number(rule.next_from(state, letter)))?;
         }
     }
+    let rows = rows_of(heap, rule)?;
     let states = size.states;
     let letters = size.letters;
     let start = rule.start_state();
-    write!(out, "rule {states} {letters} {start} {kept} {next}\n")
+    write!(
+        out,
+        "rule {states} {letters} {start} {kept} {next} {rows}\n"
+    )
+}
+
+// The rows of all states, raised so that the last state has the highest number that a state can have.
+fn rows_of<R: Rule>(heap: Global, rule: &R) -> Result<Row, AllocError> {
+    let size = rule.size();
+    let raise = (MOST_STATES - size.states) as u16;
+    let mut rows = Row::new(heap);
+    for state in 0..size.states {
+        let mut spare = [0; 16];
+        let row = rule.row(state, raise, &mut spare);
+        for to in &row[..size.letters] {
+            rows.add(usize::from(*to))?;
+        }
+    }
+    Ok(rows)
 }
 
 // The answer to a question to a rule itself, if the line asks one.
@@ -89,7 +109,7 @@ fn show_walk<R: Rule>(out: &mut String, rule: &R, words: &mut Words<'_>) -> Resu
 fn show_kept<R: Rule>(out: &mut String, rule: &R, words: &mut Words<'_>) -> Result<()> {
     let state = words.number()?;
     let shown = Answer(rule.kept_at(state).map(u8::from));
-    let there_and_kept = u8::from(is_kept(rule, state));
+    let there_and_kept = u8::from(state < rule.size().states && rule.is_kept(state));
     write!(out, "{shown} {there_and_kept}\n")?;
     Ok(())
 }

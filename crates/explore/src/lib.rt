@@ -1,7 +1,6 @@
 // Searching from cell to cell: the cells, the queue over them, the trail back from a cell, and the laws of the search.
 #![tactic(auto)]
 
-pub mod ask;
 pub mod cell;
 #[cfg(test)]
 mod examples;

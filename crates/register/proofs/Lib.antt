@@ -1,5 +1,6 @@
 pub mod Alike
 pub mod Attempts
+pub mod Beyond
 pub mod CellJoins
 pub mod Comparing
 pub mod Counting
@@ -7,6 +8,7 @@ pub mod Joins
 pub mod Labelling
 pub mod NewWords
 pub mod Pairs
+pub mod PutBack
 pub mod Right
 pub mod Runs
 pub mod Seen

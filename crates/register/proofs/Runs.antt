@@ -87,17 +87,17 @@ module _ (m : Automaton) (l : Lawful m) where
       carried = agree_law m l (kept_alike m) (joins J r.noted) L (λ u v hu hv. sym (a u v hu hv))
 
 module _ {R : Type 0} (g : Ghosts R) where
-  abbrev GoodAt : Register R → Tally → Type 0
+  abbrev GoodAt : Register R g → Tally → Type 0
   GoodAt reg t = Good (rule_of g reg) (joined_in reg) t
 
-  abbrev Reached : Register R → Register R → Tally → Type 0
+  abbrev Reached : Register R g → Register R g → Tally → Type 0
   Reached before after t = GoodAt after t × (after.rule ≡ before.rule)
 
-  unmoved : (before : Register R) (t : Tally) → GoodAt before t → (after : Register R) → after ≡ before → Reached before after t
-  unmoved before t h after e = subst⁻¹ (λ (z : Register R). Reached before z t) e (h, refl)
+  unmoved : (before : Register R g) (t : Tally) → GoodAt before t → (after : Register R g) → after ≡ before → Reached before after t
+  unmoved before t h after e = subst⁻¹ (λ (z : Register R g). Reached before z t) e (h, refl)
 
   -- each call leads from what is good to what is good,
-  step_good : (before : Register R) (t : Tally) → GoodAt before t → (e : Event) (after : Register R) → Step g before e after → Reached before after (tallied t e)
+  step_good : (before : Register R g) (t : Tally) → GoodAt before t → (e : Event) (after : Register R g) → Step g before e after → Reached before after (tallied t e)
   step_good before t h (compared p q cells word (Ok (Same j)) cells_after word_after) after c =
       let k = checked_ok _ p q (length cells) (length word) _ (Same j) c.answer in
       let h' = good_joined (rule_of g before) (g.bounds before.rule) (joined_in before) (joined_in after) t h p q j k.0 k.1 k.2 c.joined in
@@ -109,7 +109,7 @@ module _ {R : Type 0} (g : Ghosts R) where
   step_good before t h cleared after c = (good_apart (rule_of g after) (g.bounds after.rule) (joined_in after) c.apart, c.rule)
 
   -- and so does a run,
-  run_good : (events : List Event) (before : Register R) (t : Tally) → GoodAt before t → (after : Register R) → Run g before events after → Reached before after (tally t events)
+  run_good : (events : List Event) (before : Register R g) (t : Tally) → GoodAt before t → (after : Register R g) → Run g before events after → Reached before after (tally t events)
   run_good [] before t h after r = unmoved before t h after r
   run_good (e ∷ es) before t h after r =
       let s = step_good before t h e r.0 r.1 in
@@ -117,7 +117,7 @@ module _ {R : Type 0} (g : Ghosts R) where
       (c.0, c.1 ∙ s.1)
 
   -- in which each comparing is right
-  one_right : (before : Register R) (t : Tally) → GoodAt before t → (e : Event) (after : Register R) → Step g before e after → OneRight (rule_of g before) t e
+  one_right : (before : Register R g) (t : Tally) → GoodAt before t → (e : Event) (after : Register R g) → Step g before e after → OneRight (rule_of g before) t e
   one_right before t h (compared p q cells word r cells_after word_after) after c = λ hp hq hc hw.
       let m = rule_of g before in
       let s = found_in g before p q in
@@ -132,13 +132,13 @@ module _ {R : Type 0} (g : Ghosts R) where
   one_right before t h (counted n) after c = tt
   one_right before t h cleared after c = tt
 
-  each_right : (events : List Event) (before : Register R) (t : Tally) → GoodAt before t → (after : Register R) → Run g before events after → EachRight (rule_of g before) t events
+  each_right : (events : List Event) (before : Register R g) (t : Tally) → GoodAt before t → (after : Register R g) → Run g before events after → EachRight (rule_of g before) t events
   each_right [] before t h after r = tt
   each_right (e ∷ es) before t h after r =
       let s = step_good before t h e r.0 r.1 in
       (one_right before t h e r.0 r.1, subst (λ (x : R). EachRight (meaning g x) (tallied t e) es) s.1 (each_right es r.0 (tallied t e) s.0 after r.2))
 
-  pub law : (opened : Register R) → Agree 4096 (joined_in opened) (λ x y. x == y) → Law g opened
+  pub law : (opened : Register R g) → Agree 4096 (joined_in opened) (λ x y. x == y) → Law g opened
   law opened a = record {
     comparings = λ events reg run. each_right events opened fresh first reg run;
     asking = λ events reg run p q r c hp hq. (
@@ -159,14 +159,14 @@ module _ {R : Type 0} (g : Ghosts R) where
       first : Good m (joined_in opened) fresh
       first = good_apart m l (joined_in opened) (λ u v hu hv. a u v (omega (arith, l.few_states)) (omega (arith, l.few_states)))
 
-      rule : (events : List Event) (reg : Register R) → Run g opened events reg → reg.rule ≡ opened.rule
+      rule : (events : List Event) (reg : Register R g) → Run g opened events reg → reg.rule ≡ opened.rule
       rule events reg run = (run_good events opened fresh first reg run).1
 
-      good : (events : List Event) (reg : Register R) → Run g opened events reg → Good m (joined_in reg) (tally fresh events)
+      good : (events : List Event) (reg : Register R g) → Run g opened events reg → Good m (joined_in reg) (tally fresh events)
       good events reg run = subst (λ (x : R). Good (meaning g x) (joined_in reg) (tally fresh events)) (rule events reg run) (run_good events opened fresh first reg run).0
 
-      states : (events : List Event) (reg : Register R) → Run g opened events reg → (rule_of g reg).count ≡ m.count
+      states : (events : List Event) (reg : Register R g) → Run g opened events reg → (rule_of g reg).count ≡ m.count
       states events reg run = ap g.count (rule events reg run)
 
-      number : (events : List Event) (reg : Register R) → Run g opened events reg → (n : ℕ) → Counted g reg n → n ≡ classes (joined_in reg) m.count
+      number : (events : List Event) (reg : Register R g) → Run g opened events reg → (n : ℕ) → Counted g reg n → n ≡ classes (joined_in reg) m.count
       number events reg run n c = c.number ∙ ap (classes (joined_in reg)) (states events reg run)

@@ -1,12 +1,11 @@
 -- How many states have a label: where each has its own, and after one label is written for another.
-use Rattle.std.proofs.Common.{◌≡◌, ℕ, suc, ◌+◌, ◌<◌, ◌≤◌, cond, ◌&&◌, eqb, ltb, leb, ◌≢◌, List, [], ◌∷◌, length, get_or, replicate, sym, refl, ap, ◌∙◌, ⊎_elim, arith}
+use Rattle.std.proofs.Common.{◌≡◌, ℕ, suc, ◌+◌, ◌<◌, ◌≤◌, cond, ◌&&◌, eqb, ltb, leb, ◌≢◌, List, [], ◌∷◌, length, get_or, sym, refl, ap, ◌∙◌, ⊎_elim, arith}
 use Rattle.std.specs.List.{count_by}
 use Rattle.std.proofs.lemmas.Bool.Decides.{nat_tests}
 use Rattle.std.proofs.lemmas.Bool.{cases_eq, eq-eqb, ne_eqb}
-use Rattle.std.proofs.lemmas.List.{get_or-replicate}
 use Rattle.std.proofs.lemmas.List.Sums.{sum_by-cons}
 use Rattle.register.specs.Labels.{Inside}
-use Rattle.register.specs.Rings.{Added, Numbered, Relabelled, Sized}
+use Rattle.register.specs.Rings.{Added, Numbered, OnesFrom, Relabelled, Sized}
 use Rattle.register.proofs.Labelling.{put, put_away, put_here}
 
 -- How many states have the label x.
@@ -25,11 +24,11 @@ once x k (y ∷ l) h =
     rw (many_more x y l, ih) (grind (arith, nat_tests))
 
 -- Where each state has its own number, every size is 1.
-pub sized_numbered : (l : List ℕ) → length l ≡ 4096 → Numbered l → Sized l (replicate 4096 1)
-sized_numbered l long h u hu =
+pub sized_numbered : (l sizes : List ℕ) → length l ≡ 4096 → Numbered l → OnesFrom 0 sizes → Sized l sizes
+sized_numbered l sizes long h ones u hu =
     let e = h u hu in
     let o = once u 0 l (λ v lt. h v (omega arith) ∙ omega arith) in
-    rw e (get_or-replicate 4096 u 1 0 hu ∙ sym (o ∙ grind (arith, nat_tests)))
+    rw e (ones u (omega arith) hu ∙ sym (o ∙ grind (arith, nat_tests)))
 
 -- What becomes of the numbers where b is written for a.
 module _ (a b : ℕ) (ne : a ≡ b → ⊥) where

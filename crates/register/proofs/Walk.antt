@@ -1,7 +1,7 @@
 -- The walk along a ring that gives a class another label.
 use Rattle.std.proofs.Common.{◌≡◌, ℕ, ◌<◌, true, cond, not, eqb, ◌==◌, ◌≢◌, List, length, get_or, set, sym, refl, ap, ◌∙◌, ⊎_elim, arith, length-set, get_or-set_other, get_or-set_same}
 use Rattle.std.specs.List.{count_by}
-use Rattle.std.proofs.lemmas.Bool.{cases_eq, eq-eqb, eqb-false, ne_eqb, not-true, not_from_false}
+use Rattle.std.proofs.lemmas.Bool.{cases_eq, eq-eqb, eqb-true, eqb-false, ne_eqb, not-true, not_from_false}
 use Rattle.std.proofs.lemmas.List.Sums.{sum_by-set}
 use Rattle.register.specs.Labels.{Inside}
 use Rattle.register.specs.Rings.{StaysInClass, Relabelled, Round}
@@ -14,6 +14,25 @@ one_fewer l i x y h e ne =
     let b = ne_eqb y x (λ t. ne (sym t)) in
     let t = rw (a, b) at s in
     omega arith
+
+-- A state that is followed by itself is the only one of its class, and takes the new label alone.
+pub alone : (l ring : List ℕ) (start to : ℕ) → length l ≡ 4096 → start < 4096 → get_or ring start 0 ≡ start → Round l ring → Relabelled l (set l start to) start to
+alone l ring start to long h itself round u hu =
+    ⊎_elim
+    (λ (s : u ≡ start). let t = eq-eqb (get_or l u 0) (get_or l start 0) (ap (λ j. get_or l j 0) s) in
+    rw t (ap (λ j. get_or (set l start to) j 0) s ∙ get_or-set_same l start to 0 (omega arith)))
+    (λ (ne : u ≢ start). let t = ne_eqb (get_or l u 0) (get_or l start 0) (λ s. ne (eqb-true u start (round (record {
+      holds = λ v. eqb v start;
+      first = start;
+      other = u;
+      goes_on = λ v _ p. eq-eqb _ _ (ap (λ j. get_or ring j 0) (eqb-true v start p) ∙ itself);
+      first_below = h;
+      other_below = hu;
+      one_class = sym s;
+      begins = eq-eqb start start refl;
+    })))) in
+    rw t (get_or-set_other l start u to 0 ne))
+    (cases_eq u start)
 
 -- What the walk keeps. The labels were l and are m now, and `at` is the state that comes next: a state with a new label is followed by another, or by `at`.
 pub record Walking (l m ring : List ℕ) (start to at : ℕ) : Type 0 where

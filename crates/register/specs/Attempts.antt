@@ -1,4 +1,5 @@
--- A comparing under way: an attempt, which has the rule, the classes before it, and these with the noted pairs joined, which are lent; and the queue of those pairs.
+-- A comparing under way: an attempt, which has the rule, and the classes with the noted pairs joined, which are lent; and the queue of those pairs. `before` are the labels
+-- as they were before the comparing.
 --   rule_in          the automaton that its rule means
 --   kind_of          the search that it makes: over pairs of states, and over what was joined before
 --   no_cell          stands for a cell that is not there
@@ -7,9 +8,9 @@
 --   found_by         what the search over pairs gives, for a rule and over what is joined in some classes
 --   next_cell        the cell of the pair that a cell's pair leads to under a letter
 --   Stands           the noted pairs and no others are joined since, and their states are there; each has made one class fewer; and there are as many cells as
---                    states, so that there is always room
+--                    states, so that there is always room; the classes are of as many states as the rule
 --   Left             the classes that are left after a comparing: after "same" they have the joins of the noted pairs, and after "differ" they are as they were
---   Goes             it has gone on: the same rule, the same classes before it, the same classes lent, and the queue has gone on
+--   Goes             it has gone on: the same rule, the same classes lent, and the queue has gone on
 use Rattle.std.specs.Prelude.{◌≡◌, ℕ, ◌+◌, ◌≤◌, Bool, List, length}
 use Rattle.automaton.specs.declared.rule.Rule.{Ghosts}
 use Rattle.automaton.specs.Automata.{Automaton}
@@ -49,19 +50,19 @@ Left n old noted (Differ long keeper tried) new = new ≡ old
 
 pub record Goes {R : Type 0} (old new : Attempt R) (before after : Queue PairCell) : Type 0 where
   pub rule : new.rule ≡ old.rule
-  pub classes : new.before ≡ old.before
-  pub lent : new.after.ghost_name ≡ old.after.ghost_name
+  pub lent : new.classes.ghost_name ≡ old.classes.ghost_name
   pub grown : Grown before after
 
 module _ {R : Type 0} (g : Ghosts R) where
   abbrev pub rule_in : Attempt R → Automaton
   rule_in a = meaning g a.rule.now
 
-  abbrev pub kind_of : Attempt R → Kind
-  kind_of a = pairs (rule_in a) (kept_alike (rule_in a)) (same a.before.now.labels)
+  abbrev pub kind_of : Attempt R → List ℕ → Kind
+  kind_of a before = pairs (rule_in a) (kept_alike (rule_in a)) (same before)
 
-  pub record Stands (a : Attempt R) (q : Queue PairCell) : Type 0 where
-    pub joined : Agree 4096 (same a.after.now.labels) (joins (same a.before.now.labels) (noted_cells q))
+  pub record Stands (a : Attempt R) (before : List ℕ) (q : Queue PairCell) : Type 0 where
+    pub states : a.classes.now.states ≡ (rule_in a).count
+    pub joined : Agree 4096 (same a.classes.now.labels) (joins (same before) (noted_cells q))
     pub inside : CellsBelow (rule_in a).count (noted_cells q)
-    pub fewer : length (noted_cells q) + classes (same a.after.now.labels) (rule_in a).count ≤ (rule_in a).count
+    pub fewer : length (noted_cells q) + classes (same a.classes.now.labels) (rule_in a).count ≤ (rule_in a).count
     pub room : (rule_in a).count ≤ length (noted_cells q) + length (further_cells q)

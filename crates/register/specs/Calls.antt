@@ -30,35 +30,35 @@ use Rattle.register.specs.Verdicts.{verdict}
 abbrev pub found : Automaton → (ℕ → ℕ → Bool) → ℕ → ℕ → Searched PairCell
 found m J p q = explore (pairs m (kept_alike m) J) m.letters m.count (p, q)
 
-abbrev pub joined_in : {R : Type 0} → Register R → ℕ → ℕ → Bool
+abbrev pub joined_in : {R : Type 0} {g : Ghosts R} → Register R g → ℕ → ℕ → Bool
 joined_in r = same r.classes.labels
 
 module _ {R : Type 0} (g : Ghosts R) where
-  abbrev pub rule_of : Register R → Automaton
+  abbrev pub rule_of : Register R g → Automaton
   rule_of r = meaning g r.rule
 
-  abbrev pub found_in : Register R → ℕ → ℕ → Searched PairCell
+  abbrev pub found_in : Register R g → ℕ → ℕ → Searched PairCell
   found_in r p q = found (rule_of r) (joined_in r) p q
 
-  abbrev pub JoinedAfter : Register R → List PairCell → Result Verdict Fault → Register R → Type 0
+  abbrev pub JoinedAfter : Register R g → List PairCell → Result Verdict Fault → Register R g → Type 0
   JoinedAfter before noted (Ok (Same j)) after = Agree (rule_of before).count (joined_in after) (joins (joined_in before) noted)
   JoinedAfter before noted (Ok (Differ long keeper tried)) after = after ≡ before
   JoinedAfter before noted (Err f) after = after ≡ before
 
-  pub record Compared (before : Register R) (p q : ℕ) (cells : List PairCell) (word : List ℕ) (r : Result Verdict Fault) (after : Register R) (cells_after : List PairCell) (word_after : List ℕ) : Type 0 where
+  pub record Compared (before : Register R g) (p q : ℕ) (cells : List PairCell) (word : List ℕ) (r : Result Verdict Fault) (after : Register R g) (cells_after : List PairCell) (word_after : List ℕ) : Type 0 where
     pub answer : r ≡ checked (rule_of before).count p q (length cells) (length word) (verdict (rule_of before) p q (found_in before p q))
     pub rule : after.rule ≡ before.rule
     pub joined : JoinedAfter before (found_in before p q).noted r after
     pub noted : cells_after ≡ if_answered r (over (found_in before p q).noted cells) cells
     pub written : word_after ≡ if_answered r (over (unwrap_or (found_in before p q).word []) word) word
 
-  abbrev pub Asked : Register R → ℕ → ℕ → Result Bool Fault → Type 0
+  abbrev pub Asked : Register R g → ℕ → ℕ → Result Bool Fault → Type 0
   Asked reg p q r = r ≡ cond (both_there (rule_of reg).count p q) (Ok (joined_in reg p q)) (Err (refused NoSuchState))
 
-  pub record Counted (reg : Register R) (n : ℕ) : Type 0 where
+  pub record Counted (reg : Register R g) (n : ℕ) : Type 0 where
     pub number : n ≡ classes (joined_in reg) (rule_of reg).count
     pub represented : HasClasses (rule_of reg).count (Joins (joined_in reg)) n
 
-  pub record Cleared (before after : Register R) : Type 0 where
+  pub record Cleared (before after : Register R g) : Type 0 where
     pub rule : after.rule ≡ before.rule
     pub apart : Agree (rule_of after).count (joined_in after) (λ x y. x == y)

@@ -7,4 +7,5 @@ pub mod Refusals
 pub mod Relations
 pub mod Rings
 pub mod Runs
+pub mod Saved
 pub mod Verdicts

@@ -104,25 +104,25 @@ module _ (m : Automaton) where
   EachRight t (e ∷ es) = OneRight t e × EachRight (tallied t e) es
 
 module _ {R : Type 0} (g : Ghosts R) where
-  abbrev pub Step : Register R → Event → Register R → Type 0
+  abbrev pub Step : Register R g → Event → Register R g → Type 0
   Step before (compared p q cells word r cells_after word_after) after = Compared g before p q cells word r after cells_after word_after
   Step before (asked p q r) after = Asked g before p q r × (after ≡ before)
   Step before (counted n) after = Counted g before n × (after ≡ before)
   Step before cleared after = Cleared g before after
 
-  abbrev pub Run : Register R → List Event → Register R → Type 0
+  abbrev pub Run : Register R g → List Event → Register R g → Type 0
   Run before [] after = after ≡ before
-  Run before (e ∷ es) after = (between : Register R) × Step before e between × Run between es after
+  Run before (e ∷ es) after = (between : Register R g) × Step before e between × Run between es after
 
   -- with m the automaton of the register's rule, and after any calls that lead from the opened register to another one
-  pub record Law (opened : Register R) : Type 0 where
+  pub record Law (opened : Register R g) : Type 0 where
     -- each comparing among them is right
-    pub comparings : (events : List Event) (reg : Register R) → Run opened events reg → EachRight (rule_of g opened) fresh events
+    pub comparings : (events : List Event) (reg : Register R g) → Run opened events reg → EachRight (rule_of g opened) fresh events
     -- the joined-question answers for any two states, yes exactly when the relation of the tally joins them
-    pub asking : (events : List Event) (reg : Register R) → Run opened events reg → (p q : ℕ) (r : Result Bool Fault) → Asked g reg p q r →
+    pub asking : (events : List Event) (reg : Register R g) → Run opened events reg → (p q : ℕ) (r : Result Bool Fault) → Asked g reg p q r →
         p < (rule_of g opened).count → q < (rule_of g opened).count → (b : Bool) × (r ≡ Ok b) × ((b ≡ true) ↔ JoinedBy (rule_of g opened) (tally fresh events) p q)
     -- counting answers the number of classes of that relation
-    pub counting : (events : List Event) (reg : Register R) → Run opened events reg → (n : ℕ) → Counted g reg n →
+    pub counting : (events : List Event) (reg : Register R g) → Run opened events reg → (n : ℕ) → Counted g reg n →
         HasClasses (rule_of g opened).count (JoinedBy (rule_of g opened) (tally fresh events)) n
     -- and that number and the joins of the tally are together as many as the states
-    pub total : (events : List Event) (reg : Register R) → Run opened events reg → (n : ℕ) → Counted g reg n → n + (tally fresh events).sum ≡ (rule_of g opened).count
+    pub total : (events : List Event) (reg : Register R g) → Run opened events reg → (n : ℕ) → Counted g reg n → n + (tally fresh events).sum ≡ (rule_of g opened).count

@@ -1,7 +1,6 @@
 // The register: it says whether two states of a rule have the same words, and remembers what it has joined.
 #![tactic(auto)]
 
-pub(crate) mod ask;
 pub(crate) mod attempt;
 pub(crate) mod classes;
 pub(crate) mod compare;

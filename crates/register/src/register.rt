@@ -18,6 +18,7 @@ use explore::room::{check_bytes, check_cells};
 pub struct Register<R: Rule> {
     rule: R,
     classes: Classes,
+    ghost sized: { classes.states ≡ R.count rule },
 }
 
 impl<R: Rule> Register<R> {
@@ -27,6 +28,7 @@ impl<R: Rule> Register<R> {
     ghost use Rattle.register.specs.Runs.{Law, Step, asked, cleared, compared, counted};
 
     // A register over this rule, in which no two different states are joined. Whatever is called on it from here on keeps the law.
+    #[inline(always)]
     #[tactic(auto, using(crate::proofs::Runs::law))]
     pub fn open(rule: R) -> Register<R>
         ensures rule { result.rule ≡ rule }
@@ -34,8 +36,8 @@ impl<R: Rule> Register<R> {
         ensures law { Law R.Rule result }
     {
         Register {
+            classes: Classes::new(rule.size().states),
             rule,
-            classes: Classes::new(),
         }
     }
 

@@ -48,25 +48,16 @@ impl Rule for Ring {
         0
     }
 
-    fn kept_at(&self, state: usize) -> Result<bool, Fault> {
-        if state >= self.states {
-            return Err(Fault::no_state());
-        }
-        Ok(state % self.every == 0)
+    fn is_kept(&self, state: usize) -> bool {
+        state % self.every == 0
     }
 
-    fn next_from(&self, state: usize, letter: usize) -> Result<usize, Fault> {
-        if state >= self.states {
-            return Err(Fault::no_state());
-        }
-        if letter >= 2 {
-            return Err(Fault::no_letter(0));
-        }
-        Ok(if letter == 0 {
+    fn step(&self, state: usize, letter: usize) -> usize {
+        if letter == 0 {
             (state + 1) % self.states
         } else {
             state
-        })
+        }
     }
 }
 
@@ -185,6 +176,27 @@ fn parts_what_was_tried(rt: HostRuntime) {
     assert!(rt; word == [0, 0, 0, 0, 9, 9, 9, 9]);
     assert_eq!(rt; register.class_count(), 6);
     assert_eq!(rt; register.joined(1, 2), Ok(false));
+}
+
+// Whether all states are apart again after comparing two states of a ring of which one alone is kept.
+fn parts_again(states: usize) -> bool
+    requires some { 2 ≤ states }
+    requires few { states ≤ 4096 }
+{
+    let every = states;
+    let mut register = Register::open(Ring { states, every });
+    let found = register.compare(1, 2, &mut [NO_CELL; 1500], &mut [9; 1500]);
+    found == differ(states - 2, 2, states - 2) && register.class_count() == states
+}
+
+// Of rules of up to 256, of up to 1,024 and of more states more and more is saved.
+#[test]
+fn parts_few_and_many(rt: HostRuntime) {
+    assert!(rt; parts_again(256));
+    assert!(rt; parts_again(257));
+    assert!(rt; parts_again(1024));
+    assert!(rt; parts_again(1025));
+    assert!(rt; parts_again(1500));
 }
 
 // What is refused, in the order of the checks; nothing is touched.

@@ -17,8 +17,10 @@ fn write_pairs(cells: &[PairCell], at: usize, spare: &mut [u8], word: &mut [u8])
 }
 
 // 1 with 2, 3 with 4, and these two pairs; 0 stays alone.
-fn joined() -> Classes {
-    let mut table = Classes::new();
+fn joined() -> Classes
+    ensures { result.states ≡ 5 }
+{
+    let mut table = Classes::new(5);
     table.join(1, 2);
     table.join(3, 4);
     table.join(2, 4);
@@ -26,8 +28,10 @@ fn joined() -> Classes {
 }
 
 // Each state below 100 with the next.
-fn chain() -> Classes {
-    let mut table = Classes::new();
+fn chain() -> Classes
+    ensures { result.states ≡ 202 }
+{
+    let mut table = Classes::new(202);
     for i in 0..100usize {
         table.join(i, i + 1);
     }
@@ -36,7 +40,7 @@ fn chain() -> Classes {
 
 #[test]
 fn apart_at_first(rt: HostRuntime) {
-    let table = Classes::new();
+    let table = Classes::new(4096);
     assert_eq!(rt; table.count(5), 5);
     assert_eq!(rt; table.count(4096), 4096);
     assert!(rt; table.same(3, 3));

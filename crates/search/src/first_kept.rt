@@ -12,7 +12,6 @@ use automaton::fault::Fault;
 use automaton::layer::Layer;
 use automaton::rule::Rule;
 use automaton::size::MOST_STATES;
-use explore::ask::is_kept;
 use explore::room::{check_bytes, check_cells};
 use explore::step_cell::StepCell;
 use explore::trail::write_word;
@@ -50,7 +49,7 @@ pub(crate) fn find<R: Rule>(rule: &R, cells: &mut [StepCell], word: &mut [u8]) -
     ensures cells { cells.new ≡ over (found (meaning R.Rule rule.now)).noted cells.old }
     ensures word { word.new ≡ over (unwrap_or (found (meaning R.Rule rule.now)).word []) word.old }
 {
-    if is_kept(rule, rule.start_state()) {
+    if rule.is_kept(rule.start_state()) {
         return FirstKept {
             length: Some(0),
             noted: 0,

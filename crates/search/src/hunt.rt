@@ -1,5 +1,6 @@
 // The search for a kept state, from the start of a rule on.
 ghost use Rattle.std.specs.Prelude.{◌≡◌, ◌++◌, ◌∷◌, [], ◌<◌, ◌≤◌, None, Some, cond, false, length, option_map};
+ghost use Rattle.automaton.specs.Answers.{HoldsRow};
 ghost use Rattle.automaton.specs.Meanings.{meaning};
 ghost use Rattle.explore.specs.Queues.{further_cells, noted_cells};
 ghost use Rattle.explore.specs.Search.{met, spread, taken};
@@ -10,22 +11,25 @@ ghost use Rattle.search.specs.Hunts.{Stands, hunted, kept_states, next_cell};
 
 use crate::seen::Seen;
 use automaton::rule::Rule;
-use explore::ask::is_kept;
 use explore::queue::Queue;
 use explore::step_cell::StepCell;
 
-// The cell that would note the state that this one leads to under a letter.
-fn cell_after<R: Rule>(rule: &R, at: usize, cell: StepCell, letter: usize) -> StepCell
+// The cell that would note the state that this one leads to under a letter, out of the row of its state.
+fn cell_after<R: Rule>(
+    rule: &R,
+    row: &[u16; 16],
+    at: usize,
+    cell: StepCell,
+    letter: usize,
+) -> StepCell
     requires at_there { at < 4096 }
     requires state_there { cell.state < R.Rule.count rule.now }
     requires letter_there { letter < R.Rule.letters rule.now }
+    requires row { HoldsRow (R.Rule.letters rule.now) (R.Rule.next rule.now) cell.state 0 row.now }
     ensures { result ≡ next_cell (meaning R.Rule rule.now) cell at letter }
 {
-    let Ok(next) = rule.next_from(usize::from(cell.state), letter) else {
-        unreachable!();
-    };
     StepCell {
-        state: next as u16,
+        state: row[letter],
         origin: at as u16,
         letter: letter as u8,
     }
@@ -63,7 +67,7 @@ fn reach<R: Rule>(
     if seen.has(state) {
         return false;
     }
-    if is_kept(rule, state) {
+    if rule.is_kept(state) {
         return true;
     }
     note(rule, seen, queue, cell);
@@ -86,8 +90,11 @@ fn spread<R: Rule>(
     ensures spread { spread (kept_states (meaning R.Rule rule.now)) (progress queue.old None) cell.state at (R.Rule.letters rule.now) ≡ progress queue.new (option_map (λ letter. (at, letter)) result) }
     ensures taken { queue.new.taken ≡ queue.old.taken }
 {
+    let mut spare = [0u16; 16];
+    let row = rule.row(usize::from(cell.state), 0, &mut spare);
     for letter in 0..rule.size().letters {
-        if reach(rule, seen, queue, cell_after(rule, at, cell, letter)) {
+        let next = cell_after(rule, row, at, cell, letter);
+        if reach(rule, seen, queue, next) {
             return Some(letter as u8);
         }
     }

@@ -54,25 +54,16 @@ impl Rule for Modulo {
         0
     }
 
-    fn kept_at(&self, state: usize) -> Result<bool, Fault> {
-        if state >= self.modulus {
-            return Err(Fault::no_state());
-        }
-        Ok(state == self.rest)
+    fn is_kept(&self, state: usize) -> bool {
+        state == self.rest
     }
 
-    fn next_from(&self, state: usize, letter: usize) -> Result<usize, Fault> {
-        if state >= self.modulus {
-            return Err(Fault::no_state());
-        }
-        if letter >= self.letters {
-            return Err(Fault::no_letter(0));
-        }
-        Ok(if letter == self.letter {
+    fn step(&self, state: usize, letter: usize) -> usize {
+        if letter == self.letter {
             (state + 1) % self.modulus
         } else {
             state
-        })
+        }
     }
 }
 

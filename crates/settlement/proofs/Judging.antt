@@ -55,7 +55,7 @@ module _ (m n : Automaton) (l : Lawful m) (k : Lawful n) (fit : FitSum m n) wher
   found_same : (J : ℕ → ℕ → Bool) → Apart J → (v : Verdict) (cells : List PairCell) (word : List ℕ) → Right c fresh s t v cells word → found c J s t ≡ search_of m n
   found_same J a v cells word r = r.defined J (smallest J a) ∙ sym (r.defined (λ x y. x == y) (smallest (λ x y. x == y) (λ u v hu hv. refl)))
 
-  module _ (J : ℕ → ℕ → Bool) (apart : Apart J) (cells : List PairCell) (word : List ℕ) (r : Result Verdict Fault) (cells_after : List PairCell) (word_after : List ℕ) (room : 4096 ≤ length cells)
+  module _ (J : ℕ → ℕ → Bool) (apart : Apart J) (cells : List PairCell) (word : List ℕ) (r : Result Verdict Fault) (cells_after : List PairCell) (word_after : List ℕ) (room : sum m n ≤ length cells)
       (answer : r ≡ checked c.count s t (length cells) (length word) (verdict c s t (found c J s t))) (written : word_after ≡ if_answered r (over (unwrap_or (found c J s t).word []) word) word)
       (one : OneRight c fresh (compared s t cells word r cells_after word_after)) where
     s_there : s < c.count
@@ -65,7 +65,7 @@ module _ (m n : Automaton) (l : Lawful m) (k : Lawful n) (fit : FitSum m n) wher
     t_there = omega (arith, count, k.begins)
 
     few : c.count ≤ length cells
-    few = omega (arith, count, fit.few, room)
+    few = omega (arith, count, room)
 
     -- the buffer has fewer bytes than there are states, or not
     short : length word < sum m n → StartsCompared m n word r word_after
@@ -91,13 +91,13 @@ module _ (m n : Automaton) (l : Lawful m) (k : Lawful n) (fit : FitSum m n) wher
     compared_starts = grind (arith, short, long)
 
 -- The register means that disjoint union.
-module _ {R : Type 0} (g : Ghosts R) (reg : Register R) (law : Law g reg) (p q : ℕ) (cells : List PairCell) (word : List ℕ)
-    (r : Result Verdict Fault) (after : Register R) (cells_after : List PairCell) (word_after : List ℕ) (e : Compared g reg p q cells word r after cells_after word_after) where
+module _ {R : Type 0} (g : Ghosts R) (reg : Register R g) (law : Law g reg) (p q : ℕ) (cells : List PairCell) (word : List ℕ)
+    (r : Result Verdict Fault) (after : Register R g) (cells_after : List PairCell) (word_after : List ℕ) (e : Compared g reg p q cells word r after cells_after word_after) where
   one : OneRight (rule_of g reg) fresh (compared p q cells word r cells_after word_after)
   one = (law.comparings (compared p q cells word r cells_after word_after ∷ []) after (after, e, refl)).0
 
   module _ (x : R) (held : reg.rule ≡ x) (apart : Agree (meaning g x).count (joined_in reg) (λ x y. x == y)) (m n : Automaton) (l : Lawful m) (k : Lawful n) (fit : FitSum m n) (means : meaning g x ≡ disjoint_union m n) (at_p : p ≡ m.start)
-      (at_q : q ≡ m.count + n.start) (room : 4096 ≤ length cells) where
+      (at_q : q ≡ m.count + n.start) (room : sum m n ≤ length cells) where
     -- what holds of its rule and of the two states holds of that union and of the two starts
     moved : (P : Automaton → ℕ → ℕ → Type 0) → P (rule_of g reg) p q → P (disjoint_union m n) m.start (m.count + n.start)
     moved P h =

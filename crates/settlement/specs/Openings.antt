@@ -2,8 +2,8 @@
 --   opening       the answer to one sheet: its first fault, on this side, or none
 --   both_opened   the answer to two sheets: the first refusal that applies, of the first sheet and then of the second; and this, if there is none
 --   OnSheet       the sheet has no fault, and this is the automaton on it
---   NotCopied     there is no memory for a copy of a sheet, which has no fault
---   NoCopy        there is none for the first sheet, or for the second where the first has no fault
+--   NotDecoded    there is no memory for the rule on a sheet, which has no fault
+--   NoMemory      there is none for the first sheet; or there is none for the second or for the search over both, where neither has a fault
 --   Unopened      a refusal of one sheet: its first fault, or want of memory
 use Rattle.std.specs.Prelude.{◌≡◌, ℕ, ◌⊎◌, List, None, Err, Result}
 use Rattle.automaton.specs.declared.fault.Fault.{Fault}
@@ -26,12 +26,12 @@ pub record OnSheet (sheet : List ℕ) (m : Automaton) : Type 0 where
   pub formed : WellFormed sheet
   pub means : m ≡ tabled sheet
 
-pub record NotCopied (side : Side) (sheet : List ℕ) (f : Fault) : Type 0 where
+pub record NotDecoded (side : Side) (sheet : List ℕ) (f : Fault) : Type 0 where
   pub is : f ≡ sided side out_of_memory
   pub faultless : table_form.fault sheet ≡ None
 
-abbrev pub NoCopy : List ℕ → List ℕ → Fault → Type 0
-NoCopy first second f = NotCopied First first f ⊎ ((table_form.fault first ≡ None) × NotCopied Second second f)
+abbrev pub NoMemory : List ℕ → List ℕ → Fault → Type 0
+NoMemory first second f = NotDecoded First first f ⊎ ((table_form.fault first ≡ None) × NotDecoded Second second f)
 
 abbrev pub Unopened : Side → List ℕ → Fault → Type 0
-Unopened side sheet f = (opening side sheet ≡ Err f) ⊎ NotCopied side sheet f
+Unopened side sheet f = (opening side sheet ≡ Err f) ⊎ NotDecoded side sheet f

@@ -10,7 +10,7 @@ use Rattle.combine.specs.Laws.{FitPairs}
 use Rattle.search.specs.declared.relation.Relation.{Relation}
 use Rattle.search.specs.FirstKept.{handed}
 use Rattle.search.specs.Relations.{Related, checked, related, relation_value}
-use Rattle.settlement.specs.Openings.{NoCopy, both_opened}
+use Rattle.settlement.specs.Openings.{NoMemory, both_opened}
 use Rattle.sheet.specs.Layout.{WellFormed, drawn, tabled}
 
 abbrev pub relation_checked : List ℕ → List ℕ → ℕ → ℕ → Result Relation Fault
@@ -24,4 +24,4 @@ pub record SheetsRelated (first second : List ℕ) (r : Relation) (first_word se
   pub related : Related (Accepts (drawn first)) (Accepts (drawn second)) r (handed (relation_value r).only_first first_word) (handed (relation_value r).only_second second_word)
 
 abbrev pub Unrelated : List ℕ → List ℕ → ℕ → ℕ → Fault → Type 0
-Unrelated first second first_bytes second_bytes f = (relation_checked first second first_bytes second_bytes ≡ Err f) ⊎ NoCopy first second f
+Unrelated first second first_bytes second_bytes f = (relation_checked first second first_bytes second_bytes ≡ Err f) ⊎ NoMemory first second f

@@ -31,7 +31,7 @@ use Rattle.search.specs.FirstKept.{handed}
 use Rattle.search.specs.Relations.{OnlyIn}
 use Rattle.settlement.specs.declared.settlement.Settlement.{Settlement}
 use Rattle.settlement.specs.declared.settlement.Settlement.TheVariants.{Same, Differ}
-use Rattle.settlement.specs.Openings.{NoCopy, both_opened}
+use Rattle.settlement.specs.Openings.{NoMemory, both_opened}
 use Rattle.sheet.specs.Layout.{WellFormed, drawn, tabled}
 
 abbrev pub IsSame : Settlement → Type 0
@@ -100,4 +100,4 @@ pub record Settled (first second : List ℕ) (s : Settlement) (buffer : List ℕ
   pub joins : joins_of s ≡ length (search_of (tabled first) (tabled second)).noted
 
 abbrev pub Unsettled : List ℕ → List ℕ → ℕ → Fault → Type 0
-Unsettled first second bytes f = (room_checked first second bytes ≡ Err f) ⊎ NoCopy first second f
+Unsettled first second bytes f = (room_checked first second bytes ≡ Err f) ⊎ NoMemory first second f

@@ -1,14 +1,15 @@
 // Relating the rules on two table sheets, by the words that they keep.
-ghost use Rattle.std.specs.Prelude.{◌≡◌, [], IfErr, IfOk, Ok, length, unwrap_or};
+ghost use Rattle.std.specs.Prelude.{◌≡◌, ◌*◌, ◌≤◌, [], IfErr, IfOk, Ok, length, unwrap_or};
 ghost use Rattle.explore.specs.Written.{if_answered, over};
 ghost use Rattle.search.specs.Relations.{only};
 ghost use Rattle.settlement.specs.Relations.{SheetsRelated, Unrelated, relation_checked};
 ghost use Rattle.sheet.specs.Layout.{tabled};
 
-use crate::opening::open_sheet;
+use crate::opening::{cells_of, open_sheet};
 use automaton::fault::Fault;
+use automaton::rule::Rule;
 use automaton::side::Side;
-use automaton::size::MOST_STATES;
+use automaton::size::{MOST_STATES, Size};
 use explore::step_cell::StepCell;
 use search::relation::{Relation, relate};
 use std::alloc::Global;
@@ -19,6 +20,15 @@ const NO_CELL: StepCell = StepCell {
     origin: 0,
     letter: 0,
 };
+
+// How many pairs of states there are, and 4,096 where there are more, since the rules do not fit then.
+fn pairs_of(first: Size, second: Size) -> usize
+    requires first { first.states ≤ 4096 }
+    requires second { second.states ≤ 4096 }
+    ensures { first.states * second.states ≤ 4096 → first.states * second.states ≤ result }
+{
+    (first.states * second.states).min(MOST_STATES)
+}
 
 // Relates the rules on two sheets: opens the first, then the second, and seeks the first words that only one of them keeps. Each of these is handed over in a buffer of
 // its own; one of 4,096 bytes is never too short. A refusal leaves both.
@@ -37,8 +47,9 @@ pub fn relate_sheets(
 {
     let first = open_sheet(heap, first, Side::First)?;
     let second = open_sheet(heap, second, Side::Second)?;
-    let mut first_cells = [NO_CELL; MOST_STATES];
-    let mut second_cells = [NO_CELL; MOST_STATES];
+    let pairs = pairs_of(first.size(), second.size());
+    let mut first_cells = cells_of(heap, NO_CELL, pairs)?;
+    let mut second_cells = cells_of(heap, NO_CELL, pairs)?;
     relate(
         &first,
         &second,

@@ -1,23 +1,31 @@
 // Settling whether the rules on two table sheets keep the same words.
-ghost use Rattle.std.specs.Prelude.{◌≡◌, ◌+◌, [], IfErr, IfOk, Ok, length, unwrap_or};
+ghost use Rattle.std.specs.Prelude.{◌≡◌, ◌+◌, ◌≤◌, [], IfErr, IfOk, Ok, length, unwrap_or};
 ghost use Rattle.automaton.specs.Meanings.{meaning};
+ghost use Rattle.combine.specs.Combined.{sum};
 ghost use Rattle.combine.specs.Laws.{FitSum};
 ghost use Rattle.explore.specs.Written.{if_answered, over};
 ghost use Rattle.settlement.specs.Settlements.{Unsettled, Settled, room_checked, search_of, settlement_value};
 ghost use Rattle.settlement.specs.Steps.{StartsCompared, Tells};
 ghost use Rattle.sheet.specs.Layout.{tabled};
 
-use crate::opening::open_sheet;
+use crate::opening::{cells_of, open_sheet};
 use automaton::fault::Fault;
 use automaton::rule::Rule;
 use automaton::side::Side;
-use automaton::size::MOST_STATES;
 use combine::disjoint_union::DisjointUnion;
 use combine::fits::Fits;
 use explore::pair_cell::PairCell;
 use register::register::Register;
 use register::verdict::Verdict;
 use std::alloc::Global;
+
+// What a cell holds before it is noted.
+const NO_CELL: PairCell = PairCell {
+    first: 0,
+    second: 0,
+    origin: 0,
+    letter: 0,
+};
 
 // Same: both rules keep the same words, and so many joins were made. Differ: the first word that only one of them keeps, the first or the second rule, has so many letters, and
 // so many joins were tried.
@@ -62,27 +70,25 @@ pub fn settle(
     let second = open_sheet(heap, second, Side::Second)?;
     let union = DisjointUnion::new(&first, &second);
     union.fits()?;
-    let verdict = compare_starts(union, word)?;
+    let mut cells = cells_of(heap, NO_CELL, union.sizes().states)?;
+    let verdict = compare_starts(union, &mut cells, word)?;
     Ok(settlement_of(verdict, first.start_state()))
 }
 
-// Compares the starts of two rules that fit. The word, if one is found, stands at the beginning of the buffer, which is refused if it has fewer bytes than there are states.
+// Compares the starts of two rules that fit, with as many cells as they have states. The word, if one is found, stands at the beginning of the buffer, which is refused if it has
+// fewer bytes than there are states.
 fn compare_starts<A: Rule + Drop, B: Rule + Drop>(
     union: DisjointUnion<A, B>,
+    cells: &mut [PairCell],
     word: &mut [u8],
 ) -> Result<Verdict, Fault>
-    requires { FitSum (meaning A.Rule union.first.rule) (meaning B.Rule union.second.rule) }
+    requires fit { FitSum (meaning A.Rule union.first.rule) (meaning B.Rule union.second.rule) }
+    requires room { sum (meaning A.Rule union.first.rule) (meaning B.Rule union.second.rule) ≤ length cells.old }
     ensures { StartsCompared (meaning A.Rule union.first.rule) (meaning B.Rule union.second.rule) word.old result word.new }
 {
-    let mut cells = [PairCell {
-        first: 0,
-        second: 0,
-        origin: 0,
-        letter: 0,
-    }; MOST_STATES];
     let (first, second) = starts(&union);
     let mut register = Register::open(union);
-    register.compare(first, second, &mut cells, word)
+    register.compare(first, second, cells, word)
 }
 
 // The states of a disjoint union where its two rules start.

@@ -1,11 +1,13 @@
 -- What the check of a sheet tells.
-use Rattle.std.proofs.Common.{Err, ◌≡◌, ◌↔◌, ℕ, List, Some, Ok, Err, Result, arith}
+use Rattle.std.proofs.Common.{◌≡◌, ◌↔◌, ℕ, List, Some, None, Ok, Err, Option, Result, ap, inl, inr, refl, sym, arith}
 use Rattle.std.proofs.lemmas.Grind.{common_steps}
 use Rattle.automaton.specs.declared.fault.Fault.{Fault}
-use Rattle.sheet.specs.Layout.{WellFormed}
+use Rattle.std.specs.Option.{unwrap_or}
+use Rattle.automaton.specs.Automata.{Automaton}
+use Rattle.sheet.specs.Layout.{WellFormed, tabled}
 use Rattle.sheet.specs.NfaLayout.{NfaWellFormed, pictured, setwise}
 use Rattle.sheet.specs.NfaOpening.{nfa_fault, nfa_form}
-use Rattle.sheet.specs.Forms.{Checked, answered}
+use Rattle.sheet.specs.Forms.{Checked, Decodes, Undecoded, answered, out_of_memory}
 use Rattle.sheet.specs.Opening.{fault_of, stray_fault, strayed, table_form}
 use Rattle.sheet.specs.Subsets.{Subsets}
 use Rattle.sheet.proofs.Drawings.{keeps_drawn}
@@ -29,6 +31,35 @@ module _ (bs : List ℕ) (r : Result (Unit {0}) Fault) (e : r ≡ answered (faul
     keeps = λ k. keeps_drawn bs (accepted.0 k).closed;
     also = λ _ _ p a k. some_stray bs p a (named p a k);
   }
+
+-- a table sheet that was decoded, and one that was not
+module _ (bs : List ℕ) where
+  pub decoded : (m : Automaton) → m ≡ tabled bs → fault_of bs ≡ None → Decodes table_form bs m
+  decoded m is e =
+      let t : Checked table_form bs (Ok tt) = table_checked bs (Ok tt) (sym (ap answered e)) in
+      record { faultless = e; formed = t.accepted.0 refl; means = is; keeps = rw is (t.keeps refl) }
+
+  -- no sheet is refused for want of memory
+  no_want : fault_of bs ≡ Some out_of_memory → ⊥
+  no_want e = grind (arith, common_steps)
+
+  pub faulty : (f : Fault) → fault_of bs ≡ Some f → Undecoded table_form bs f
+  faulty f e =
+      let t : Checked table_form bs (Err f) = table_checked bs (Err f) (sym (ap answered e)) in
+      record {
+        answer = inl (ap answered e);
+        formed = ((λ w. let k : Err f ≡ Ok tt = t.accepted.1 w in cc), (λ k. absurd (no_want (rw k at e))));
+        also = λ rule. t.also rule (λ k. cc);
+      }
+
+  pub undecoded : (f : Fault) → f ≡ unwrap_or (fault_of bs) out_of_memory → Undecoded table_form bs f
+  undecoded f e = go (fault_of bs) refl e
+    where
+      go : (o : Option Fault) → fault_of bs ≡ o → f ≡ unwrap_or o out_of_memory → Undecoded table_form bs f
+      go (Some g) k h = faulty f (rw h k)
+      go None k h =
+          let t : Checked table_form bs (Ok tt) = table_checked bs (Ok tt) (sym (ap answered k)) in
+          record { answer = inr (k, h); formed = ((λ _. h), (λ _. t.accepted.0 refl)); also = λ rule p a l. grind (arith, common_steps) }
 
 -- the sheet of a nondeterministic automaton
 module _ (bs : List ℕ) (r : Result (Unit {0}) Fault) (e : r ≡ answered (nfa_fault bs)) where

@@ -1,7 +1,9 @@
 pub mod Checked
 pub mod Drawings
 pub mod Firsts
+pub mod Lanes
 pub mod Pictures
+pub mod Runs
 pub mod Sets
 pub mod Strays
 pub mod SubsetRuns

@@ -3,6 +3,9 @@
 --   field          the number that the w bits from position i on write
 --   three          the number that three bytes write, the first the highest
 --   window         the number that the three bytes from the byte q on write
+--   bytes_from     the number that so many bytes from the byte q on write
+--   ten            a field of ten bits: the one at place i of those that stand one behind the other from position at on
+--   lane           a lane of a number, sixteen bits wide; lane 0 is the lowest
 --   truncated      the refusal of a field that ends past the last byte
 --   field_answer   what reading a field answers
 --   write_answer   what writing a field answers
@@ -26,6 +29,16 @@ three b0 b1 b2 = b0 * 65536 + b1 * 256 + b2
 
 abbrev pub window : List ℕ → ℕ → ℕ
 window bs q = three (slice_index bs q) (slice_index bs (q + 1)) (slice_index bs (q + 2))
+
+unfoldable pub bytes_from : List ℕ → ℕ → ℕ → ℕ
+bytes_from bs q zero = 0
+bytes_from bs q (suc n) = bytes_from bs q n * 256 + slice_index bs (q + n)
+
+abbrev pub ten : List ℕ → ℕ → ℕ → ℕ
+ten bs at i = field bs (at + 10 * i) 10
+
+abbrev pub lane : ℕ → ℕ → ℕ
+lane n j = n / 2 ^ (16 * j) % 65536
 
 abbrev pub truncated : Fault
 truncated = refusal Truncated Sheet

@@ -11,6 +11,10 @@
 --   Opened          the promise of opening, with the meaning of the rule afterwards: answer and bytes are the defined ones; it succeeds
 --                   exactly on a well-formed sheet; the rule is that of the bytes held; the words that it then keeps are those that
 --                   the diagram of the sheet accepts; and what else the form promises
+--   Decodes         the promise of making a rule out of a sheet that is lent: the sheet has no fault, and is well-formed; the rule is that of
+--                   the sheet; and the words that it keeps are those that the diagram of the sheet accepts
+--   Undecoded       the promise where none is made: the refusal is the first fault of the sheet, or want of memory for a sheet without a
+--                   fault; the sheet is well-formed exactly if memory is wanting; and what else the form promises
 --   NotCopied       a sheet without a fault was not copied for want of memory, and the old bytes are held
 --   Copied          the promise of opening a copy: opened, or not copied
 use Rattle.std.specs.Prelude.{◌≡◌, ◌⊎◌, ◌↔◌, ℕ, List, Some, None, Ok, Err, Option, Result}
@@ -53,6 +57,17 @@ pub record Opened (f : Form) (sheet old new : List ℕ) (rule : Automaton) (r : 
   pub means : rule ≡ f.means new
   pub keeps : r ≡ Ok tt → (w : List ℕ) → Keeps rule w ↔ Accepts (f.drawn sheet) w
   pub also : f.Also sheet rule r
+
+pub record Decodes (f : Form) (sheet : List ℕ) (rule : Automaton) : Type 0 where
+  pub faultless : f.fault sheet ≡ None
+  pub formed : f.WellFormed sheet
+  pub means : rule ≡ f.means sheet
+  pub keeps : (w : List ℕ) → Keeps rule w ↔ Accepts (f.drawn sheet) w
+
+pub record Undecoded (f : Form) (sheet : List ℕ) (fault : Fault) : Type 0 where
+  pub answer : (answered (f.fault sheet) ≡ Err fault) ⊎ ((f.fault sheet ≡ None) × (fault ≡ out_of_memory))
+  pub formed : f.WellFormed sheet ↔ (fault ≡ out_of_memory)
+  pub also : (rule : Automaton) → f.Also sheet rule (Err fault)
 
 pub record NotCopied (f : Form) (sheet old new : List ℕ) (r : Result (Unit {0}) Fault) : Type 0 where
   pub answer : r ≡ Err out_of_memory

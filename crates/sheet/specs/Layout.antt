@@ -23,7 +23,7 @@ use Rattle.std.specs.Prelude.{◌≡◌, ℕ, ◌+◌, ◌-◌, ◌*◌, ◌/◌
 use Rattle.automaton.specs.declared.size.Size.{Size}
 use Rattle.automaton.specs.Automata.{Automaton, automaton}
 use Rattle.automaton.specs.Diagrams.{Diagram}
-use Rattle.sheet.specs.Bits.{bit, field}
+use Rattle.sheet.specs.Bits.{bit, field, ten}
 use Rattle.sheet.specs.First.{first}
 
 abbrev pub letter_count : List ℕ → ℕ
@@ -42,7 +42,7 @@ abbrev pub kept_in : List ℕ → ℕ → Bool
 kept_in bs p = field bs (row_start bs p) 1 == 1
 
 abbrev pub next_in : List ℕ → ℕ → ℕ → ℕ
-next_in bs p a = field bs (row_start bs p + 1 + 10 * a) 10
+next_in bs p a = ten bs (row_start bs p + 1) a
 
 abbrev pub sheet_bits : List ℕ → ℕ
 sheet_bits bs = row_start bs (state_count bs)

@@ -3,6 +3,7 @@ pub mod Bounds
 pub mod First
 pub mod Forms
 pub mod Layout
+pub mod Listed
 pub mod NfaLayout
 pub mod NfaOpening
 pub mod Opening

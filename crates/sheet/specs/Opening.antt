@@ -5,6 +5,7 @@
 --   stray_at        the refusal of a state that was found, under its letter
 --   stray_fault     the refusal of the lowest state that has a stray next state, under its lowest such letter
 --   or_else         the first of two faults
+--   size_fault      the fault of a sheet that is too short for a header or of the wrong length
 --   fault_of        the first fault of a sheet: too short for a header, then of the wrong length, then a stray next state, then a
 --                   bit set after the last row
 --   Stray           a next state that is not there, before which every next state is there
@@ -41,11 +42,11 @@ abbrev pub or_else : Option Fault → Option Fault → Option Fault
 or_else (Some f) rest = Some f
 or_else None rest = rest
 
+abbrev pub size_fault : List ℕ → Option Fault
+size_fault bs = cond (nat_lt (length bs) 2) (Some truncated) (cond (length bs == sheet_bytes bs) None (Some wrong_length))
+
 abbrev pub fault_of : List ℕ → Option Fault
-fault_of bs =
-    cond (nat_lt (length bs) 2) (Some truncated)
-    (cond (length bs == sheet_bytes bs) (or_else (stray_fault bs) (cond (padding bs == 0) None (Some padding_set)))
-    (Some wrong_length))
+fault_of bs = or_else (size_fault bs) (or_else (stray_fault bs) (cond (padding bs == 0) None (Some padding_set)))
 
 pub record Stray (bs : List ℕ) (p a : ℕ) : Type 0 where
   pub state : p < state_count bs

@@ -1,8 +1,8 @@
 // Fields of bits across bytes, the most significant bit first, by shifts and masks (docs/DECISIONS.md, "Forms of
 // code"). A place and a width are no struct of their own: each caller makes both anew and hands them on once. The casts that are
 // left are between `usize` and `u32`, which have no `From`, or cut a number to its lowest bits.
-ghost use Rattle.std.specs.Prelude.{◌≡◌, ℕ, ◌+◌, ◌*◌, ◌/◌, ◌%◌, ◌^◌, ◌<◌, ◌≤◌, ◌⊎◌, length, nat_le, slice_index, slice_set};
-ghost use Rattle.sheet.specs.Bits.{bit, field, field_answer, three, truncated, window, Written};
+ghost use Rattle.std.specs.Prelude.{◌≡◌, ℕ, ◌+◌, ◌-◌, ◌*◌, ◌/◌, ◌%◌, ◌^◌, ◌<◌, ◌≤◌, ◌⊎◌, length, nat_le, slice_index, slice_set};
+ghost use Rattle.sheet.specs.Bits.{bit, bytes_from, field, field_answer, three, truncated, window, Written};
 
 use crate::width::Width;
 use automaton::fault::Fault;
@@ -51,6 +51,16 @@ fn four_bytes(bytes: &[u8], first: usize) -> u32
         return three << 8 | u32::from(bytes[first + 3]);
     }
     three_bytes(bytes, first) << 8
+}
+
+// Eight bytes that are there as one number. They are read at once.
+pub(crate) fn eight_there(bytes: &[u8], first: usize) -> u64
+    requires { first + 8 ≤ length bytes.now }
+    ensures value { result ≡ bytes_from bytes.now first 8 }
+    ensures typed { (k : ℕ) → slice_index bytes.now k < 256 }
+{
+    let (words, _) = bytes[first..first + 8].as_chunks::<8>();
+    u64::from_be_bytes(words[0])
 }
 
 // Whether the field at the bit `at` ends within the bytes.

@@ -1,9 +1,9 @@
 // Whether a sheet may be opened.
-ghost use Rattle.std.specs.Prelude.{◌≡◌, ◌+◌, ◌-◌, ◌*◌, ◌/◌, cond, length, ◌==◌};
+ghost use Rattle.std.specs.Prelude.{◌≡◌, ◌+◌, ◌-◌, ◌*◌, ◌/◌, cond, IfErr, IfOk, OnOk, length, ◌==◌};
 ghost use Rattle.sheet.specs.Bits.{field};
 ghost use Rattle.sheet.specs.Forms.{answered};
 ghost use Rattle.sheet.specs.NfaOpening.{nfa_fault};
-ghost use Rattle.sheet.specs.Opening.{fault_of, padding_set, stray_fault, wrong_length};
+ghost use Rattle.sheet.specs.Opening.{fault_of, padding_set, size_fault, stray_fault, wrong_length};
 
 use crate::bits::{read_bits, read_field};
 use crate::layout::Rows;
@@ -24,7 +24,7 @@ fn check_length(sheet: &[u8], bits: usize) -> Result<(), Fault>
 }
 
 // Refuses a sheet in which a bit is set after so many bits.
-fn check_filling(sheet: &[u8], bits: usize) -> Result<(), Fault>
+pub(crate) fn check_filling(sheet: &[u8], bits: usize) -> Result<(), Fault>
     requires { length sheet.now ≡ (bits + 7) / 8 }
     ensures { result ≡ cond (field sheet.now bits (8 * length sheet.now - bits) == 0) (Ok tt) (Err padding_set) }
 {
@@ -46,16 +46,25 @@ fn check_targets(rows: &Rows<'_>) -> Result<(), Fault>
     Err(Fault::new(FaultKind::TargetOutOfRange { state, letter }, Layer::Sheet))
 }
 
+// The rows of a sheet that is as long as its header asks for. Any other is refused.
+pub(crate) fn sized_rows<'a>(sheet: &'a [u8]) -> Result<Rows<'a>, Fault>
+    ensures rows { IfOk result (λ rows. rows.bytes.now ≡ sheet.now) }
+    ensures sized { OnOk result (size_fault sheet.now ≡ None) }
+    ensures refused { IfErr result (λ fault. size_fault sheet.now ≡ Some fault) }
+{
+    read_field(sheet, 0, Width::of(14))?;
+    let rows = Rows::of(sheet);
+    check_length(sheet, rows.start(rows.size.states))?;
+    Ok(rows)
+}
+
 // Refuses the first fault of a table sheet.
 pub(crate) fn check_table(sheet: &[u8]) -> Result<(), Fault>
     ensures { result ≡ answered (fault_of sheet.now) }
 {
-    read_field(sheet, 0, Width::of(14))?;
-    let rows = Rows::of(sheet);
-    let bits = rows.start(rows.size.states);
-    check_length(sheet, bits)?;
+    let rows = sized_rows(sheet)?;
     check_targets(&rows)?;
-    check_filling(sheet, bits)
+    check_filling(sheet, rows.start(rows.size.states))
 }
 
 // Refuses the first fault of the sheet of a nondeterministic automaton.

@@ -3,12 +3,14 @@
 
 pub mod bits;
 mod checks;
+pub mod decoded;
 mod held;
 mod layout;
 pub mod nfa;
 mod nfa_layout;
 pub mod opening;
 pub mod table;
+mod tens;
 #[cfg(test)]
 mod tests;
 pub mod width;

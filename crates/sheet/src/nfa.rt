@@ -19,7 +19,6 @@ pub struct Nfa {
     ghost narrow: { own_count bytes.items ≤ 10 },
 }
 
-// The tests of a state and of a letter are its own, as those of every kind of rule: each is one `if` and answers its own refusal.
 impl Rule for Nfa {
     ghost count = { λ t. (setwise (t.bytes.items)).count };
 
@@ -45,23 +44,12 @@ impl Rule for Nfa {
         usize::from(Sets::of(&self.bytes).starts())
     }
 
-    fn kept_at(&self, state: usize) -> Result<bool, Fault> {
-        let sets = Sets::of(&self.bytes);
-        if state >= sets.count() {
-            return Err(Fault::no_state());
-        }
-        Ok(sets.meets_kept(state))
+    fn is_kept(&self, state: usize) -> bool {
+        Sets::of(&self.bytes).meets_kept(state)
     }
 
-    fn next_from(&self, state: usize, letter: usize) -> Result<usize, Fault> {
-        let sets = Sets::of(&self.bytes);
-        if state >= sets.count() {
-            return Err(Fault::no_state());
-        }
-        if letter >= sets.letters {
-            return Err(Fault::no_letter(0));
-        }
-        Ok(usize::from(sets.follow(state, letter)))
+    fn step(&self, state: usize, letter: usize) -> usize {
+        usize::from(Sets::of(&self.bytes).follow(state, letter))
     }
 }
 

@@ -37,7 +37,6 @@ impl Table {
     }
 }
 
-// The tests of a state and of a letter are its own, as those of every kind of rule: each is one `if` and answers its own refusal.
 impl Rule for Table {
     ghost count = { λ t. (tabled (t.bytes.items)).count };
 
@@ -60,22 +59,19 @@ impl Rule for Table {
     }
 
     #[inline(always)]
-    fn kept_at(&self, state: usize) -> Result<bool, Fault> {
-        if state >= self.size.states {
-            return Err(Fault::no_state());
-        }
-        Ok(self.rows().is_kept(state))
+    fn is_kept(&self, state: usize) -> bool {
+        self.rows().is_kept(state)
     }
 
     #[inline(always)]
-    fn next_from(&self, state: usize, letter: usize) -> Result<usize, Fault> {
-        if state >= self.size.states {
-            return Err(Fault::no_state());
-        }
-        if letter >= self.size.letters {
-            return Err(Fault::no_letter(0));
-        }
-        Ok(self.rows().next(state, letter))
+    fn step(&self, state: usize, letter: usize) -> usize {
+        self.rows().next(state, letter)
+    }
+
+    #[inline(always)]
+    fn row<'s>(&'s self, state: usize, raise: u16, spare: &'s mut [u16; 16]) -> &'s [u16; 16] {
+        self.rows().fill(state, raise, spare);
+        spare
     }
 }
 

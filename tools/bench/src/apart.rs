@@ -1,17 +1,22 @@
 //! What stands beside comparing, timed by itself: opening and decoding, copying, and settling two sheets in one call.
 
 use crate::answer::Answer;
-use crate::cases::{KINDS, SIZES};
+use crate::cases::{Make, KINDS, SIZES, SMALLEST};
 use crate::contest::{decode, Pair};
+use crate::goals::Goals;
 use crate::proved;
 use crate::rounds::{interleave, Effort, Runner, Times};
 use crate::search::Search;
 use crate::sheet;
 use crate::table::Table;
-use crate::text::{columns, double, title, words};
+use crate::text::{columns, double, ratio, title, words};
 use crate::union_find::UnionFind;
 
 const NAMES: [&str; 5] = ["open", "decode by hand", "copy of both", "settle", "settle by hand"];
+const OPEN: usize = 0;
+const DECODE: usize = 1;
+const SETTLE: usize = 3;
+const BY_HAND: usize = 4;
 
 /// Work that has no answer of its own.
 fn silent<'a>(mut work: impl FnMut(usize) + 'a) -> Runner<'a> {
@@ -52,20 +57,28 @@ fn runners(pair: &Pair) -> [Runner<'_>; NAMES.len()] {
     ]
 }
 
-/// A row for one size.
-fn row(size: usize, effort: Effort) -> Vec<String> {
-    let (name, make) = KINDS[0];
+/// A row for one case and size.
+fn row((name, make): (&str, Make), size: usize, effort: Effort, goals: &mut Goals) -> Vec<String> {
     let pair = Pair::new(make(size));
     let times = interleave(&mut runners(&pair), effort);
+    let place = format!("{name} {size}");
+    let [opened, settled] = [times[OPEN].ratio(&times[DECODE]), times[SETTLE].ratio(&times[BY_HAND])];
+    goals.open.take(place.clone(), opened);
+    let settle = if size == SMALLEST { &mut goals.settle_small } else { &mut goals.settle };
+    settle.take(place, settled);
     let mut row = words(&[name, &size.to_string()]);
     row.extend(times.iter().flat_map(Times::cells));
+    row.extend([opened, settled].map(ratio));
     row
 }
 
-pub fn print(effort: Effort) {
-    title("Microseconds of what stands apart, best and median: opening and decoding one sheet, copying both, settling as a whole:");
+pub fn print(effort: Effort, goals: &mut Goals) {
+    title("Microseconds of what stands apart, best and median: opening and decoding one sheet, copying both, settling as a whole; and the median ratios open/decode and settle/settle by hand:");
     let mut rows = vec![words(&["case", "states"])];
     rows[0].extend(double(&NAMES));
-    rows.extend(SIZES.map(|size| row(size, effort)));
+    rows[0].extend(words(&["open/decode", "settle/by hand"]));
+    for kind in KINDS {
+        rows.extend(SIZES.map(|size| row(kind, size, effort, goals)));
+    }
     columns(&rows);
 }

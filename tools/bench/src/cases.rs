@@ -4,7 +4,9 @@ use crate::random::Random;
 use crate::table::Table;
 
 pub const LETTERS: usize = 16;
-pub const SIZES: [usize; 3] = [64, 256, 1024];
+pub const SMALLEST: usize = 64;
+pub const LARGEST: usize = 1024;
+pub const SIZES: [usize; 3] = [SMALLEST, 256, LARGEST];
 
 /// Makes two tables of so many states.
 pub type Make = fn(usize) -> (Table, Table);

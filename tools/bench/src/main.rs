@@ -24,7 +24,7 @@ mod text;
 mod timed;
 mod union_find;
 
-use goals::Goal;
+use goals::Goals;
 use rounds::Effort;
 
 const FULL: Effort = Effort { rounds: 15, batch: 2e6 };
@@ -37,16 +37,12 @@ fn main() {
     let kinds = timed::checked();
     let nests = nests::checked();
 
-    let mut dense = Goal::new("dense/union-find", 1.0);
-    let mut tables = Goal::new("tables/union-find", 5.0);
-    let mut growth = Goal::new("growth of dense, where states times letters grow by 4", 6.0);
-    let mut over_tables = Goal::new("nest/single over tables", 8.0);
-    let mut over_dense = Goal::new("nest/single over dense", 8.0);
+    let mut goals = Goals::default();
 
     let timed: Vec<_> = kinds.iter().map(|kind| kind.time(effort)).collect();
-    timed.iter().for_each(|timed| timed.judge(&mut dense, &mut tables, &mut growth));
+    timed.iter().for_each(|timed| timed.judge(&mut goals));
     timed::print(&timed);
-    apart::print(effort);
-    nests.print(effort, &mut over_tables, &mut over_dense);
-    goals::print(&[dense, tables, growth, over_tables, over_dense]);
+    apart::print(effort, &mut goals);
+    nests.print(effort, &mut goals);
+    goals.print();
 }

@@ -3,7 +3,7 @@
 use crate::answer::Answer;
 use crate::cases::{factors, SIZES};
 use crate::contest::by_hand;
-use crate::goals::Goal;
+use crate::goals::Goals;
 use crate::proved;
 use crate::rounds::{interleave, Effort, Runner, Times};
 use crate::sheet;
@@ -96,7 +96,7 @@ pub fn checked() -> Nests {
 
 impl Nests {
     /// Times and prints them all, and takes their ratios for the goals.
-    pub fn print(&self, effort: Effort, over_tables: &mut Goal, over_dense: &mut Goal) {
+    pub fn print(&self, effort: Effort, goals: &mut Goals) {
         title("Microseconds of comparing in a single intersection and in a nest of five, best and median, and the median ratios nest/single:");
         let mut rows = vec![words(&["states", "joins", ""])];
         rows[0].extend(double(&NAMES));
@@ -104,8 +104,8 @@ impl Nests {
         for ((case, answers), size) in self.0.iter().zip(SIZES) {
             let times = interleave(&mut case.runners(), effort);
             let ratios = [times[1].ratio(&times[0]), times[3].ratio(&times[2])];
-            over_tables.take(format!("{size} states"), ratios[0]);
-            over_dense.take(format!("{size} states"), ratios[1]);
+            goals.over_tables.take(format!("{size} states"), ratios[0]);
+            goals.over_dense.take(format!("{size} states"), ratios[1]);
             let mut row = vec![size.to_string()];
             row.extend(answers.iter().map(|answer| answer.joins.to_string()));
             row.extend(times.iter().flat_map(Times::cells));

@@ -1,9 +1,9 @@
 //! The cases, checked and timed.
 
 use crate::answer::Answer;
-use crate::cases::{Make, KINDS, SIZES};
+use crate::cases::{Make, KINDS, LARGEST, SIZES};
 use crate::contest::{self, Pair, COPIES, DENSE, NAMES, PRODUCT, RINGS, TABLES, UNION_FIND};
-use crate::goals::Goal;
+use crate::goals::Goals;
 use crate::rounds::{interleave, Effort, Runner, Times};
 use crate::text::{columns, double, ratio, title, words};
 
@@ -76,16 +76,19 @@ impl Timed<'_> {
         })
     }
 
-    /// Takes the ratios that three of the goals are about.
-    pub fn judge(&self, dense: &mut Goal, tables: &mut Goal, growth: &mut Goal) {
+    /// Takes the ratios that goals are about: beside the union-find at the largest size alone.
+    pub fn judge(&self, goals: &mut Goals) {
         for (size, _, times) in self.sizes() {
-            let place = format!("{} {size}", self.kind.name);
-            dense.take(place.clone(), times[DENSE].ratio(&times[UNION_FIND]));
-            tables.take(place, times[TABLES].ratio(&times[UNION_FIND]));
+            let place = || format!("{} {size}", self.kind.name);
+            goals.dense_rings.take(place(), times[DENSE].ratio(&times[RINGS]));
+            if size == LARGEST {
+                goals.dense.take(place(), times[DENSE].ratio(&times[UNION_FIND]));
+                goals.tables.take(place(), times[TABLES].ratio(&times[UNION_FIND]));
+            }
         }
         for i in 1..SIZES.len() {
             let place = format!("{} {} to {}", self.kind.name, SIZES[i - 1], SIZES[i]);
-            growth.take(place, self.times[i][DENSE].ratio(&self.times[i - 1][DENSE]));
+            goals.growth.take(place, self.times[i][DENSE].ratio(&self.times[i - 1][DENSE]));
         }
     }
 }

@@ -1,5 +1,6 @@
-use Rattle.std.proofs.Common.{◌≡◌, ℕ, ◌<◌, length, get_or}
+use Rattle.std.proofs.Common.{◌≡◌, length}
+use Rattle.register.specs.Rings.{Renumbered}
 use Rattle.register.proofs.classes.number.Given as goal
 
-abbrev pub invariant-loop-i : goal.invariant-loop-i
-invariant-loop-i l = record { long : length l.table ≡ 4096; numbered : (u : ℕ) → u < l.i → get_or l.table u 0 ≡ u }
+abbrev pub invariant-loop-state : goal.invariant-loop-state
+invariant-loop-state l = record { long : length l.table ≡ 4096; numbered : Renumbered l.initial.table l.table l.state }

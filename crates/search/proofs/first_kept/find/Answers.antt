@@ -1,7 +1,6 @@
 use Rattle.std.proofs.Common.{◌∙◌, sym}
 use Rattle.automaton.specs.Automata.{Automaton}
 use Rattle.automaton.specs.Meanings.{meaning}
-use Rattle.explore.proofs.Asked.{kept_there}
 use Rattle.search.proofs.FirstKept.{answered_further, ended_there, lent}
 use Rattle.search.proofs.first_kept.find.Goals as goal
 
@@ -13,5 +12,5 @@ hand_over-requires-clause-there g c =
 pub returns-clause-answer : goal.returns-clause-answer
 returns-clause-answer g c =
     let m : Automaton = meaning g.R.Rule c.args.rule.now in
-    answered_further m (sym (kept_there m.count m.start _ _ (g.R.Rule.bounds c.args.rule.now).begins (rw c.start_state.ensures at c.is_kept.ensures)) ∙ c.if-is_kept.false) _ _ _ _ (lent m c.args.cells.now c.hunt-hunted.new.cells c.hunt-hunted.result.noted c.hunt-hunted.ensures.cells c.hunt-hunted.ensures.noted)
+    answered_further m (sym (rw c.start_state.ensures at c.is_kept.ensures) ∙ c.if-is_kept.false) _ _ _ _ (lent m c.args.cells.now c.hunt-hunted.new.cells c.hunt-hunted.result.noted c.hunt-hunted.ensures.cells c.hunt-hunted.ensures.noted)
     c.hunt-hunted.ensures.noted c.hunt-hunted.ensures.ended c.hand_over.ensures.length

@@ -15,7 +15,7 @@ returns-then-reach-clause-grown g c = grown_then c.args.queue.now c.loop-letter.
 pub returns-then-reach-clause-spread : goal.returns-then-reach-clause-spread
 returns-then-reach-clause-spread g c =
     spread_out (kept_states (meaning g.R.Rule c.args.rule.now)) c.args.queue.now c.loop-letter.queue c.reach.new.queue c.args.cell.state c.args.at c.loop-letter.letter _
-    c.loop-letter.invariant.spread (rw (c.if-reach.true, c.cell_after.ensures) at c.reach.ensures.met)
+    c.loop-letter.invariant.spread (rw (c.if-reach.true, c.cell_after-next.ensures) at c.reach.ensures.met)
     (omega (arith, c.loop-letter-test.true, ap (λ (s : Size). s.letters) c.size-letter-end.ensures))
 
 pub loop-letter-preserved : goal.loop-letter-preserved
@@ -23,6 +23,6 @@ loop-letter-preserved g c = record {
   stands = c.reach.ensures.stands;
   grown = grown_then c.args.queue.now c.loop-letter.queue c.reach.new.queue c.loop-letter.invariant.grown c.reach.ensures.grown;
   spread = spread_more (kept_states (meaning g.R.Rule c.args.rule.now)) c.args.queue.now c.loop-letter.queue c.reach.new.queue c.args.cell.state c.args.at c.loop-letter.letter None
-      c.loop-letter.invariant.spread (rw (c.if-reach.false, c.cell_after.ensures) at c.reach.ensures.met);
+      c.loop-letter.invariant.spread (rw (c.if-reach.false, c.cell_after-next.ensures) at c.reach.ensures.met);
   taken = c.reach.ensures.taken ∙ c.loop-letter.invariant.taken;
 }

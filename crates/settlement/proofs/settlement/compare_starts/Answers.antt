@@ -1,4 +1,4 @@
-use Rattle.std.proofs.Common.{lit≤, refl}
+use Rattle.std.proofs.Common.{refl}
 use Rattle.automaton.specs.Meanings.{meaning}
 use Rattle.settlement.proofs.Judging.{judged}
 use Rattle.settlement.proofs.settlement.compare_starts.Goals as goal
@@ -9,4 +9,4 @@ returns g c =
     let a = u.first.rule in
     let b = u.second.rule in
     judged _ _ c.open-register.ensures.law _ _ _ _ _ _ _ _ c.compare.ensures u c.open-register.ensures.rule c.open-register.ensures.apart (meaning g.A.Rule a) (meaning g.B.Rule b) (g.A.Rule.bounds a)
-    (g.B.Rule.bounds b) c.requires refl c.starts-first.ensures.first c.starts-first.ensures.second (lit≤ tt)
+    (g.B.Rule.bounds b) c.requires.fit refl c.starts-first.ensures.first c.starts-first.ensures.second c.requires.room

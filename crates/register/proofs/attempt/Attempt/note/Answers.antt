@@ -17,15 +17,15 @@ module _ (g : Over) (c : goal.After-note g) where
   bound : n ≤ 4096
   bound = (g.R.Rule.bounds c.args.self.now.rule.now).few_states
 
-  joined : Agree 4096 (same c.join.new.self.labels) (join (same c.args.self.now.after.now.labels) c.args.cell.first c.args.cell.second)
-  joined = subst (λ (x : ℕ). Agree 4096 (same c.join.new.self.labels) (join (same c.args.self.now.after.now.labels) c.args.cell.first x)) c.from-2.ensures
-      (subst (λ (x : ℕ). Agree 4096 (same c.join.new.self.labels) (join (same c.args.self.now.after.now.labels) x c.from-2.result)) c.from.ensures c.join.ensures)
+  joined : Agree 4096 (same c.join.new.self.labels) (join (same c.args.self.now.classes.now.labels) c.args.cell.first c.args.cell.second)
+  joined = subst (λ (x : ℕ). Agree 4096 (same c.join.new.self.labels) (join (same c.args.self.now.classes.now.labels) c.args.cell.first x)) c.from-2.ensures
+      (subst (λ (x : ℕ). Agree 4096 (same c.join.new.self.labels) (join (same c.args.self.now.classes.now.labels) x c.from-2.result)) c.from.ensures c.join.ensures.joined)
 
-  fewer : suc (classes (same c.join.new.self.labels) n) ≡ classes (same c.args.self.now.after.now.labels) n
-  fewer = one_fewer c.args.self.now.after.now.labels c.join.new.self.labels n c.args.cell.first c.args.cell.second bound c.requires.first_there c.requires.second_there c.requires.apart joined
+  fewer : suc (classes (same c.join.new.self.labels) n) ≡ classes (same c.args.self.now.classes.now.labels) n
+  fewer = one_fewer c.args.self.now.classes.now.labels c.join.new.self.labels n c.args.cell.first c.args.cell.second bound c.requires.1.1.0 c.requires.1.1.1.0 c.requires.1.1.1.1 joined
 
   room : has_room c.args.queue.now ≡ true
-  room = room_for_one c.args.queue.now (omega (arith, fewer, c.requires.stands.fewer, c.requires.stands.room))
+  room = room_for_one c.args.queue.now (omega (arith, fewer, c.requires.1.0.fewer, c.requires.1.0.room))
 
   noted : noted_cells c.note.new.self ≡ noted_cells c.args.queue.now ++ (c.args.cell ∷ [])
   noted = c.note.ensures.noted ∙ rw (c.note.ensures.answer, room) refl
@@ -35,13 +35,14 @@ module _ (g : Over) (c : goal.After-note g) where
 
 pub returns-clause-stands : goal.returns-clause-stands
 returns-clause-stands g c = record {
-  joined = subst (λ (cells : List PairCell). Agree 4096 (same c.join.new.self.labels) (joins (same c.args.self.now.before.now.labels) cells)) (sym (noted g c))
-      (joined_one c.args.self.now.after.now.labels c.join.new.self.labels (same c.args.self.now.before.now.labels) (noted_cells c.args.queue.now) c.args.cell
-      (omega (arith, bound g c, c.requires.first_there)) (omega (arith, bound g c, c.requires.second_there)) c.requires.stands.joined (joined g c));
+  states = c.join.ensures.states ∙ c.requires.1.0.states;
+  joined = subst (λ (cells : List PairCell). Agree 4096 (same c.join.new.self.labels) (joins (same g.before) cells)) (sym (noted g c))
+      (joined_one c.args.self.now.classes.now.labels c.join.new.self.labels (same g.before) (noted_cells c.args.queue.now) c.args.cell
+      (omega (arith, bound g c, c.requires.1.1.0)) (omega (arith, bound g c, c.requires.1.1.1.0)) c.requires.1.0.joined (joined g c));
   inside = subst (λ (cells : List PairCell). CellsBelow (n g c) cells) (sym (noted g c))
-      (one_below (n g c) (noted_cells c.args.queue.now) c.args.cell c.requires.stands.inside c.requires.first_there c.requires.second_there);
-  fewer = omega (arith, ap length (noted g c), length_end (noted_cells c.args.queue.now) c.args.cell, fewer g c, c.requires.stands.fewer);
-  room = omega (arith, ap length (noted g c), length_end (noted_cells c.args.queue.now) c.args.cell, fewer_left g c, c.requires.stands.room);
+      (one_below (n g c) (noted_cells c.args.queue.now) c.args.cell c.requires.1.0.inside c.requires.1.1.0 c.requires.1.1.1.0);
+  fewer = omega (arith, ap length (noted g c), length_end (noted_cells c.args.queue.now) c.args.cell, fewer g c, c.requires.1.0.fewer);
+  room = omega (arith, ap length (noted g c), length_end (noted_cells c.args.queue.now) c.args.cell, fewer_left g c, c.requires.1.0.room);
 }
 
 pub returns-clause-noted : goal.returns-clause-noted

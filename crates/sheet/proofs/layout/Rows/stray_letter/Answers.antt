@@ -1,12 +1,9 @@
-use Rattle.std.proofs.Common.{◌≡◌, true, false, rules}
-use Rattle.std.proofs.lemmas.Iterator.{first_from_Range}
-use Rattle.sheet.specs.Layout.{letter_count}
-use Rattle.sheet.proofs.Firsts.{first_is}
-use Rattle.sheet.proofs.Strays.{out}
+use Rattle.std.proofs.Common.{◌<◌, ℕ, subst, sym}
+use Rattle.sheet.proofs.Strays.{none_in_row}
 use Rattle.sheet.proofs.layout.Rows.stray_letter.Goals as goal
 
-pub returns : goal.returns
-returns c =
-    let bs = c.args.self.now.bytes.now in
-    first_is (out bs c.args.state) (letter_count bs) c.args.self.now.size.letters c.find.result c.args.self.now.headed.letters
-    (first_from_Range _ _ _ _ (λ a. out bs c.args.state a ≡ true) (λ a. out bs c.args.state a ≡ false) c.find.ensures.ran (λ a q k. search rules) (λ a q k. search rules))
+pub returns-then-is_closed_row : goal.returns-then-is_closed_row
+returns-then-is_closed_row c =
+    let size = c.args.self.now.headed in
+    none_in_row c.args.self.now.bytes.now c.args.state c.args.self.now.size.states size.states
+    (λ a l. c.is_closed_row.ensures c.if-is_closed_row.true a (subst (λ (k : ℕ). a < k) (sym size.letters) l))
