@@ -23,6 +23,8 @@ from rules import BLANK, FIRST, NEITHER, SECOND, SHEET, Fault
 
 THREADS = 4
 OUT_OF_MEMORY = 255
+# The most pieces of memory that a call asks for.
+MOST_PIECES = 6
 
 
 # What the reference says.
@@ -75,17 +77,27 @@ def wanted(library, call):
         return left_by_refused(library, call, refusal)
 
 
+def asked_pieces(call):
+    """The side of each piece of memory that a call asks for, in order, as far as it comes. Of two tables each is decoded into two pieces, and then come the cells of each search;
+    whoever judges a text copies the sheet into one. A sheet that is refused, and two rules that settling refuses, ask for no further one."""
+    if not call.rooms:
+        read = sheets.nfa if call.name == "nfa_keeps" else sheets.table
+        return [NEITHER] if number_of(lambda: read(call.given[0])) is None else []
+    asked = []
+    for side, sheet in zip((FIRST, SECOND), call.given):
+        if number_of(lambda: sheets.table(sheet)) is not None:
+            return asked
+        asked += [side, side]
+    first, second = map(sheets.table, call.given)
+    if call.name == "relate":
+        return asked + [SECOND, SECOND]
+    return asked + [SECOND] if first.letters == second.letters else asked
+
+
 def want_of_memory(call, pieces):
-    """The refusal of a call for which there are so few pieces of memory, or None if they suffice. Each sheet that is accepted is copied into one piece, before the next is
-    opened."""
-    read = sheets.nfa if call.name == "nfa_keeps" else sheets.table
-    sides = (FIRST, SECOND) if call.rooms else (NEITHER,)
-    for copied, (side, sheet) in enumerate(zip(sides, call.given)):
-        if number_of(lambda: read(sheet)) is not None:
-            return None
-        if copied == pieces:
-            return Fault(OUT_OF_MEMORY, SHEET, side=side)
-    return None
+    """The refusal of a call for which there are so few pieces of memory, or None if they suffice."""
+    asked = asked_pieces(call)
+    return Fault(OUT_OF_MEMORY, SHEET, side=asked[pieces]) if pieces < len(asked) else None
 
 
 def wanted_short(library, call, wants, pieces):
@@ -182,8 +194,8 @@ def agree_side_by_side(library, made, wants):
 
 
 def agree_without_memory(library, made, wants):
-    """Each call with no piece of memory, and with one."""
-    return all(agrees(call, wanted_short(library, call, wanted, pieces), run(library, call, pieces)) for call, wanted in zip(made, wants) for pieces in (0, 1))
+    """Each call with no piece of memory, with one, and so on, as far as any call asks for one more."""
+    return all(agrees(call, wanted_short(library, call, wanted, pieces), run(library, call, pieces)) for call, wanted in zip(made, wants) for pieces in range(MOST_PIECES))
 
 
 def print_counts(made, wants):

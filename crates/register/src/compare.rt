@@ -120,10 +120,16 @@ fn try_saving<R: Rule>(
     ensures parted { IfSome result.ended (λ ended. classes.new ≡ classes.old) }
 {
     let states = classes.states();
-    if states <= 256 {
+    if states <= 128 {
+        try_out::<R, 128>(rule, classes, p, q, cells)
+    } else if states <= 256 {
         try_out::<R, 256>(rule, classes, p, q, cells)
+    } else if states <= 512 {
+        try_out::<R, 512>(rule, classes, p, q, cells)
     } else if states <= 1024 {
         try_out::<R, 1024>(rule, classes, p, q, cells)
+    } else if states <= 2048 {
+        try_out::<R, 2048>(rule, classes, p, q, cells)
     } else {
         try_out::<R, 4096>(rule, classes, p, q, cells)
     }
