@@ -423,9 +423,9 @@ fn decoded_row(rt: HostRuntime) -> Result<(), Fail> {
     let sheet = ring_sheet(rt.alloc(), 1024, 16)?;
     let rule = Decoded::of(rt.alloc(), &sheet)?;
     let mut spare = [0; 16];
-    let mut row = &[0; 16];
+    let mut row = [0; 16];
     if rule.size().states == 1024 {
-        row = rule.row(1020, 3072, &mut spare);
+        row = *rule.row(1020, 3072, &mut spare);
     }
     assert_eq!(rt; row[0], 3072 + 1021);
     assert_eq!(rt; row[2], 3072 + 1023);
