@@ -105,3 +105,10 @@ rule_walked g s = walked (meaning g s) (g.bounds s)
 
 pub rule_judged : {S : Type 0} (g : Ghosts S) (s : S) (w : List ℕ) (r : Result Bool Fault) → r ≡ keeps_answer (meaning g s) w → Judged (meaning g s) w r
 rule_judged g s = judged (meaning g s) (g.bounds s)
+
+-- A walk from a state that is there ends at one.
+walk_ends : (m : Automaton) → Lawful m → (p : ℕ) (w : List ℕ) (q : ℕ) → walk_answer m p w ≡ Ok q → q < m.count
+walk_ends m h p w q e = grind (arith, common_steps, walk_told m 0 p w q, walk_below m h w p)
+
+pub rule_ends : {S : Type 0} (g : Ghosts S) (s : S) (p : ℕ) (w : List ℕ) (q : ℕ) → walk_answer (meaning g s) p w ≡ Ok q → q < (meaning g s).count
+rule_ends g s = walk_ends (meaning g s) (g.bounds s)

@@ -45,10 +45,11 @@ fn follow<R: Rule>(rule: &R, from: usize, word: Word<'_>) -> Result<usize, Fault
     Ok(state)
 }
 
-// Whether the walk from the start ends at a kept state.
+// Whether the walk from the start ends at a kept state. It ends at one that is there.
+#[tactic(auto, using(crate::proofs::Textbook::rule_ends))]
 fn ends_kept<R: Rule>(rule: &R, word: Word<'_>) -> Result<bool, Fault>
     ensures { result ≡ keeps_answer (meaning R.Rule rule.now) (spelled word.entry) }
 {
     let end = follow(rule, rule.start_state(), word)?;
-    rule.kept_at(end)
+    Ok(rule.is_kept(end))
 }

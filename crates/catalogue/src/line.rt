@@ -18,8 +18,8 @@ fn run_length<F: Fn(u8) -> bool>(text: &[u8], most: usize, test: F) -> usize
     requires { F.IsAlwaysCallable test }
     ensures { Ran text.now (F.post test) most result }
 {
-    text.iter()
-        .take(most)
+    text[..most.min(text.len())]
+        .iter()
         .take_while(|byte| test(**byte))
         .count()
 }

@@ -9,6 +9,7 @@ use crate::intersection::Intersection;
 use crate::sizes::Sizes;
 use automaton::rule::Rule;
 use automaton::size::Size;
+use std::alloc::AllocError;
 
 // The rule that keeps what one keeps and another drops: the intersection of the one and the complement of the
 // other. The bound says what is true of every complement; the type of the field asks for it.
@@ -19,6 +20,23 @@ where
 {
     pub pair: Intersection<A, Complement<B>>,
 }
+
+// A difference is cloned and copied where its rules are.
+impl<A: Rule + Clone, B: Rule + Clone> Clone for Difference<A, B> {
+    ghost is_clone = { λ x y. A.Clone.is_clone x.pair.first.rule y.pair.first.rule ×
+        B.Clone.is_clone x.pair.second.rule.rule y.pair.second.rule.rule };
+
+    ghost is_infallible = { λ x. A.Clone.is_infallible x.pair.first.rule ×
+        B.Clone.is_infallible x.pair.second.rule.rule };
+
+    fn clone(&self) -> Result<Difference<A, B>, AllocError> {
+        Ok(Difference {
+            pair: self.pair.clone()?,
+        })
+    }
+}
+
+impl<A: Rule + Copy, B: Rule + Copy> Copy for Difference<A, B> {}
 
 impl<A: Rule, B: Rule> Difference<A, B> {
     ghost use Rattle.std.specs.Prelude.{◌≡◌};

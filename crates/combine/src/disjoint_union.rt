@@ -10,6 +10,7 @@ use crate::sizes::Sizes;
 use automaton::blank::Blank;
 use automaton::rule::Rule;
 use automaton::size::Size;
+use std::alloc::AllocError;
 
 // The rule that has the states of both, the second's raised by the number of the first's. Its start is the first's.
 #[derive(Drop)]
@@ -17,6 +18,24 @@ pub struct DisjointUnion<A: Rule, B: Rule> {
     pub first: Part<A>,
     pub second: Part<B>,
 }
+
+// A disjoint union is cloned and copied where its rules are.
+impl<A: Rule + Clone, B: Rule + Clone> Clone for DisjointUnion<A, B> {
+    ghost is_clone = { λ x y. A.Clone.is_clone x.first.rule y.first.rule ×
+        B.Clone.is_clone x.second.rule y.second.rule };
+
+    ghost is_infallible = { λ x. A.Clone.is_infallible x.first.rule ×
+        B.Clone.is_infallible x.second.rule };
+
+    fn clone(&self) -> Result<DisjointUnion<A, B>, AllocError> {
+        Ok(DisjointUnion {
+            first: self.first.clone()?,
+            second: self.second.clone()?,
+        })
+    }
+}
+
+impl<A: Rule + Copy, B: Rule + Copy> Copy for DisjointUnion<A, B> {}
 
 impl<A: Rule, B: Rule> DisjointUnion<A, B> {
     ghost use Rattle.combine.specs.Laws.{Unites};

@@ -10,6 +10,7 @@ use crate::sizes::{Sizes, number_row};
 use automaton::blank::Blank;
 use automaton::rule::Rule;
 use automaton::size::Size;
+use std::alloc::AllocError;
 
 // The rule that keeps what both keep, by pairs of their states.
 #[derive(Drop)]
@@ -17,6 +18,24 @@ pub struct Intersection<A: Rule, B: Rule> {
     pub first: Part<A>,
     pub second: Part<B>,
 }
+
+// An intersection is cloned and copied where its rules are.
+impl<A: Rule + Clone, B: Rule + Clone> Clone for Intersection<A, B> {
+    ghost is_clone = { λ x y. A.Clone.is_clone x.first.rule y.first.rule ×
+        B.Clone.is_clone x.second.rule y.second.rule };
+
+    ghost is_infallible = { λ x. A.Clone.is_infallible x.first.rule ×
+        B.Clone.is_infallible x.second.rule };
+
+    fn clone(&self) -> Result<Intersection<A, B>, AllocError> {
+        Ok(Intersection {
+            first: self.first.clone()?,
+            second: self.second.clone()?,
+        })
+    }
+}
+
+impl<A: Rule + Copy, B: Rule + Copy> Copy for Intersection<A, B> {}
 
 impl<A: Rule, B: Rule> Intersection<A, B> {
     ghost use Rattle.combine.specs.Laws.{Intersects};

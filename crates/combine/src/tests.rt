@@ -24,6 +24,7 @@ use automaton::size::Size;
 use automaton::walk::{keeps, walk};
 use automaton::word::Word;
 use std::cell::Cell;
+use std::test::Fail;
 
 // The rule that counts the letter 0 up to a number of states and begins anew, and keeps the count 0.
 #[derive(Clone, Copy)]
@@ -325,14 +326,26 @@ fn misfits(rt: HostRuntime) {
     let all = Complement::new(misfit);
     assert_eq!(rt; keeps(&all, Word::Text(b"aaa")), Ok(true));
     assert_eq!(rt; keeps(&all, Word::Text(b"b")), Err(Fault::no_letter(0)));
-    let inner = Intersection::new(&all, NARROW);
+    let inner = Intersection::new(all, NARROW);
     assert_eq!(rt; inner.fits(), Ok(()));
     assert_eq!(rt; keeps(&inner, Word::Text(b"aa")), Ok(true));
     assert_eq!(rt; keeps(&inner, Word::Text(b"aaa")), Ok(false));
-    let outer = DisjointUnion::new(&all, EVEN);
+    let outer = DisjointUnion::new(all, EVEN);
     assert_eq!(rt; outer.fits(), refused(FaultKind::LettersDiffer));
     assert_eq!(rt; outer.size(), Blank.size());
     assert_eq!(rt; keeps(&outer, Word::Text(b"a")), Ok(false));
+}
+
+// A nest is cloned and copied, and each of the two is the nest. The words: odd counts that are a multiple of three.
+#[test]
+fn copies(rt: HostRuntime) -> Result<(), Fail> {
+    let nest = Difference::new(THIRD, DisjointUnion::new(EVEN, THIRD));
+    let both = Intersection::new(nest.clone()?, nest);
+    assert_eq!(rt; nest.size(), both.first.rule.size());
+    assert_eq!(rt; both.fits(), Ok(()));
+    assert_eq!(rt; keeps(&both, Word::Text(b"aaab")), Ok(true));
+    assert_eq!(rt; keeps(&both, Word::Text(b"aaaaaa")), Ok(false));
+    Ok(())
 }
 
 // A raised row of a rule, where there is such; else a row of zeros.

@@ -1,7 +1,7 @@
 // The fields of the sheet of a nondeterministic automaton.
 ghost use Rattle.std.specs.Prelude.{◌≡◌, ◌<◌, ◌≤◌};
 ghost use Rattle.sheet.specs.Bits.{field};
-ghost use Rattle.sheet.specs.NfaLayout.{Counted, followed, kept_set, meets, next_set, nfa_bits, own_count, set_count, start_set};
+ghost use Rattle.sheet.specs.NfaLayout.{Counted, followed, kept_set, next_set, nfa_bits, own_count, set_count, start_set};
 ghost use Rattle.sheet.specs.Sets.{has};
 
 use crate::bits::read_bits;
@@ -11,7 +11,7 @@ use crate::width::Width;
 // The sets on a sheet: its bytes, and the numbers of own states and of letters that its header writes down.
 #[derive(Clone, Copy)]
 pub(crate) struct Sets<'a> {
-    bytes: &'a [u8],
+    pub(crate) bytes: &'a [u8],
     pub(crate) own: usize,
     pub(crate) letters: usize,
     ghost counted: { Counted bytes.now own letters },
@@ -19,6 +19,7 @@ pub(crate) struct Sets<'a> {
 
 impl<'a> Sets<'a> {
     // The sets on a sheet.
+    #[inline(always)]
     pub(crate) fn of(sheet: &'a [u8]) -> Sets<'a>
         ensures { result.bytes.now ≡ sheet.now }
     {
@@ -51,7 +52,7 @@ impl<'a> Sets<'a> {
     }
 
     // The set of kept own states.
-    fn kept(&self) -> u16
+    pub(crate) fn kept(&self) -> u16
         ensures { result ≡ kept_set self.now.bytes.now }
     {
         self.set_at(8 + self.own)
@@ -64,13 +65,6 @@ impl<'a> Sets<'a> {
         ensures { result ≡ next_set self.now.bytes.now own_state letter }
     {
         self.set_at(8 + self.own * (2 + own_state * self.letters + letter))
-    }
-
-    // Whether a set has a kept own state.
-    pub(crate) fn meets_kept(&self, set: usize) -> bool
-        ensures { result ≡ meets self.now.bytes.now set }
-    {
-        set & usize::from(self.kept()) != 0
     }
 
     // Whether an own state is in a set. Own state 0 has the highest of the set's bits.
